@@ -33,7 +33,7 @@ int main(void) {
     if (eb_image_head(1, 1000, 1024, image, sizeof image) != EB_OK)
         return 1;
 
-    /* a watch is told of each message that matches it */
+    /* each message tells which watches it matches */
     if (eb_watch_set(&watches, &how, 7, bytes("level:error billing"), 19, &column) != EB_OK)
         return 1;
     for (size_t at = 0; at < sizeof lines / sizeof *lines; at++) {

@@ -15,7 +15,7 @@ with tempfile.TemporaryDirectory() as folder:
     image = os.path.join(folder, "messages.image")
     index = Index(1, 1000, 1024, fields=["level"], words="pieces", image=image)
     with index, Watches(fields=["level"], words="pieces") as watches:
-        # a watch is told of each message that matches it
+        # each message tells which watches it matches
         watches.set(7, "level:error billing")
         for at, line in enumerate(LINES):
             matching = watches.tell_line(line)

@@ -16,31 +16,10 @@ A message can be found as soon as `add` returns, and the newest matches come fir
 """
 from earlybird import refusals, shared, stream
 from earlybird._index import Answer, Count, Histogram, Index, Segment
-from earlybird._refusals import (
-    BadDocument,
-    BadHandle,
-    BadImage,
-    BadJson,
-    BadLine,
-    BadNumber,
-    BadQuery,
-    BadReading,
-    BadSetting,
-    BadText,
-    Full,
-    LongLine,
-    NoMemory,
-    NoWatch,
-    QueryTooDeep,
-    QueryTooLarge,
-    Refused,
-    TooLong,
-    WatchesFull,
-    WatchTaken,
-)
 from earlybird._shared import Converter, Reader, Writer
 from earlybird._stream import Follower, Leader, Released, Spare
 from earlybird._watches import Watches
+from earlybird.refusals import *
 
 __version__ = "0.5.0"
 

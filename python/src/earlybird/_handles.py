@@ -100,9 +100,18 @@ class Asking(Side):
         with self._alone:
             return self._answer(self._by_text(self._at, self._reading.at, k, data, len(data), *self._room))
 
-    def _ask_line(self, line: bytes) -> Answer:
+    def search_line(self, line: bytes) -> Answer:
+        """Answers a query line of `earlybird run`, without its end; a column counts from the `?`.
+
+        Raises what `Index.search_line` raises, or `BadHandle`.
+        """
         with self._alone:
             return self._answer(self._by_line(self._at, self._reading.at, line, len(line), *self._room))
+
+    @property
+    def seen(self) -> int:
+        """How many messages of the one that adds it knows."""
+        return self._number("_seen")
 
     def _counted(self, query: str, start: int, width: int, number: int) -> Tuple[List[int], int, int]:
         with self._alone:

@@ -106,18 +106,6 @@ class Reader(_Known, Asking):
         """
         return self._ask(query, k)
 
-    def search_line(self, line: bytes) -> Answer:
-        """Answers a query line of `earlybird run`, without its end; a column counts from the `?`.
-
-        Raises what `Index.search_line` raises, or `BadHandle`.
-        """
-        return self._ask_line(line)
-
-    @property
-    def seen(self) -> int:
-        """How many messages it knows."""
-        return self._number("_seen")
-
 
 class Converter(Side):
     """The one converter of an index, as `converter` of its writer, or of a generation, as `converter()` of its leader."""

@@ -162,18 +162,6 @@ class Follower(Asking):
         """
         return self._ask(query, k)
 
-    def search_line(self, line: bytes) -> Answer:
-        """Answers a query line of `earlybird run`, without its end; a column counts from the `?`.
-
-        Raises what `Index.search_line` raises, or `BadHandle`.
-        """
-        return self._ask_line(line)
-
-    @property
-    def seen(self) -> int:
-        """How many messages of the leader it knows."""
-        return self._number("_seen")
-
     @property
     def held(self) -> int:
         """How many generations it holds."""

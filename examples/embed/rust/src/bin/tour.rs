@@ -19,7 +19,7 @@ fn main() -> Result<(), ImageError> {
     let mut index = Saving::new(Index::with_reading(1, 1000, 1024, how.clone())?, Vec::new())?;
     let mut watches = Watches::with_reading(how.clone())?;
 
-    // a watch is told of each message that matches it
+    // each message tells which watches it matches
     watches.set(7, "level:error billing")?;
     for (at, line) in LINES.iter().enumerate() {
         let matching = watches.tell_line(line)?;
