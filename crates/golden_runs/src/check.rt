@@ -1,6 +1,6 @@
 //! Compares what runs left with what their row wants.
 
-use crate::outcome::{Left, run_once};
+use crate::outcome::{Left, Run, run_once};
 use crate::row::{Fault, Row};
 use anyhow::Result;
 use std::alloc::Global;
@@ -120,10 +120,7 @@ fn difference_at(row: &Row, fault: Fault, text: &[u8], left: &Left) -> Option<&'
 // Counts a run, and prints in what it differs and what it left.
 fn tell<R: Print>(
     rt: &R,
-    row: &Row,
-    words: &[String],
-    cut: u64,
-    fault: Fault,
+    run: &Run<'_>,
     left: &Left,
     what: Option<&'static str>,
     tally: &mut Tally,
@@ -133,6 +130,12 @@ fn tell<R: Print>(
         return Ok(());
     };
     tally.differ = tally.differ.saturating_add(1);
+    let Run {
+        row,
+        words,
+        cut,
+        fault,
+    } = *run;
     let name = row.name.as_str();
     let Fault { read, write, .. } = fault;
     println!(rt; "{name}: {what}, of {words:?}, cut {cut}, fault read {read} write {write}")?;
@@ -148,23 +151,25 @@ fn tell<R: Print>(
     Ok(())
 }
 
-// Makes the runs of a row by one of its command lines and at one cut.
+// Makes a run without a fault, and those like it with the faults of its row.
 fn check_at<R: Threads + Wait + Sync + Print>(
     rt: &R,
     alloc: Global,
-    row: &Row,
+    run: &Run<'_>,
     text: &[u8],
-    words: &Vec<String>,
-    cut: u64,
     tally: &mut Tally,
 ) -> Result<()> {
-    let left = run_once(rt, alloc, row, words, cut, NO_FAULT)?;
-    let what = difference(row, &left);
-    tell(rt, row, words, cut, NO_FAULT, &left, what, tally)?;
+    let row = run.row;
+    let left = run_once(rt, alloc, run)?;
+    tell(rt, run, &left, difference(row, &left), tally)?;
     for fault in row.faults.as_slice() {
-        let left = run_once(rt, alloc, row, words, cut, *fault)?;
+        let run = Run {
+            fault: *fault,
+            ..*run
+        };
+        let left = run_once(rt, alloc, &run)?;
         let what = difference_at(row, *fault, text, &left);
-        tell(rt, row, words, cut, *fault, &left, what, tally)?;
+        tell(rt, &run, &left, what, tally)?;
     }
     Ok(())
 }
@@ -180,7 +185,13 @@ pub(crate) fn check_row<R: Threads + Wait + Sync + Print>(
     let text = first_text(alloc, row)?;
     for words in row.lines.as_slice() {
         for cut in row.cuts.as_slice() {
-            check_at(rt, alloc, row, text.as_slice(), words, *cut, tally)?;
+            let run = Run {
+                row,
+                words,
+                cut: *cut,
+                fault: NO_FAULT,
+            };
+            check_at(rt, alloc, &run, text.as_slice(), tally)?;
         }
     }
     Ok(())

@@ -11,6 +11,16 @@ use std::sync::Wait;
 use std::sync::atomic::Ordering;
 use std::thread::Threads;
 
+// A run of a row: the words of its command line, how many bytes a call the source gives and the
+// sink takes at most, and which calls fail.
+#[derive(Clone, Copy)]
+pub(crate) struct Run<'a> {
+    pub(crate) row: &'a Row,
+    pub(crate) words: &'a Vec<String>,
+    pub(crate) cut: u64,
+    pub(crate) fault: Fault,
+}
+
 // What a run left: the exit code, what it printed and said, what the gate observed, and whether the
 // source's next call is its first one.
 #[derive(Drop)]
@@ -41,16 +51,18 @@ fn run_by<R: Threads + Wait + Sync>(
     }
 }
 
-// Runs a command line of a row. The source gives, and the output takes, at most this many bytes a
-// call. Where the row wants that the source isn't called, its first call fails.
+// Makes a run. Where its row wants that the source isn't called, the source's first call fails.
 pub(crate) fn run_once<R: Threads + Wait + Sync>(
     rt: &R,
     alloc: Global,
-    row: &Row,
-    words: &Vec<String>,
-    cut: u64,
-    fault: Fault,
+    run: &Run<'_>,
 ) -> Result<Left> {
+    let Run {
+        row,
+        words,
+        cut,
+        fault,
+    } = *run;
     let piece = (cut as usize).max(1);
     let read = if row.is_unread { 1 } else { fault.read };
     let deaf = u64::from(row.is_deaf);
