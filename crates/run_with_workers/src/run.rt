@@ -15,33 +15,46 @@ use eb_base::Gate;
 use eb_engine::Index;
 use eb_io::{Sink, Source};
 use eb_lines::Status;
-use eb_serve::{Clerk, Desk, Worker, work_all};
+use eb_serve::{Clerk, Desk, work_all};
 use run_store::Plan;
 use std::alloc::Global;
 use std::sync::Wait;
 use std::thread::{Threads, join_mut};
+
+// What a run serves with: the desk, the index, how its lines are gone over, and how many workers there are.
+#[derive(Clone, Copy)]
+struct Service<'a> {
+    desk: &'a Desk,
+    index: &'a Index,
+    plan: &'a Plan<'a>,
+    workers: u32,
+}
 
 // The clerk's part, which begins with a new clerk and an empty index. In it one stop is put for each worker, after a fault
 // and where memory runs out.
 fn serve<R: Threads + Wait + Sync, S: Source, K: Sink, G: Gate + Sync>(
     rt: &R,
     alloc: Global,
-    desk: &Desk,
-    index: &Index,
-    gate: &G,
+    service: &Service<'_>,
     side: &mut Option<Side>,
-    plan: &Plan<'_>,
     source: &mut S,
     out: &mut K,
-    workers: u32,
+    gate: &G,
 ) -> (Status, Clerk)
-    requires { IsNewSide desk.now.queues index.now side.old }
-    ensures stops { result.1.stops ≡ workers }
-    ensures ends { EndsOf is_bad at_least (index_rules (dialect_of plan.entry.now.dialect) index.now.setting plan.entry.now.form []) result.0
+    requires { IsNewSide service.now.desk.now.queues service.now.index.now side.old }
+    ensures stops { result.1.stops ≡ service.now.workers }
+    ensures ends { EndsOf is_bad at_least
+        (index_rules (dialect_of service.now.plan.now.dialect) service.now.index.now.setting service.now.plan.now.form []) result.0
         (S.left source.old) (S.left source.new) (K.taken out.old) (K.taken out.new) }
     ensures read_fault { result.0 ≡ Status.ReadFault → HasRisen (S.faults source.old) (S.faults source.new) }
     ensures write_fault { result.0 ≡ Status.WriteFault → HasRisen (K.faults out.old) (K.faults out.new) }
 {
+    let Service {
+        desk,
+        index,
+        plan,
+        workers,
+    } = *service;
     let Some(
         Side {
             clerk,
@@ -62,67 +75,6 @@ fn serve<R: Threads + Wait + Sync, S: Source, K: Sink, G: Gate + Sync>(
     };
     let (status, office) = serve_lines(rt, alloc, office, plan.dialect, source, out, gate);
     (status, office.stop(rt, workers))
-}
-
-// Lets the workers work beside the clerk's part, which is called once.
-fn work_beside<R: Threads + Wait + Sync, G: Gate + Sync, C: FnMut() -> (Status, Clerk)>(
-    rt: &R,
-    desk: &Desk,
-    index: &Index,
-    gate: &G,
-    workers: &mut [Worker],
-    clerk: &mut C,
-) -> (Status, Clerk)
-    requires workers { All (λ w. IsWorkerOf desk.now.queues index.now w) workers.old }
-    requires clerk { C.pre clerk.old }
-    ensures { C.step clerk.old result clerk.new }
-{
-    let (_, answered) = join_mut(
-        rt,
-        &mut ||
-            requires { All (λ w. IsWorkerOf desk.now.queues index.now w) workers.now }
-        { work_all(rt, desk, index, gate, workers) },
-        clerk,
-    );
-    answered
-}
-
-// The clerk's part beside the workers'.
-fn serve_beside<R: Threads + Wait + Sync, S: Source, K: Sink, G: Gate + Sync>(
-    rt: &R,
-    alloc: Global,
-    desk: &Desk,
-    index: &Index,
-    gate: &G,
-    workers: &mut [Worker],
-    side: &mut Option<Side>,
-    plan: &Plan<'_>,
-    source: &mut S,
-    out: &mut K,
-    count: u32,
-) -> Status
-    requires workers { All (λ w. IsWorkerOf desk.now.queues index.now w) workers.old }
-    requires side { IsNewSide desk.now.queues index.now side.old }
-    ensures ends { EndsOf is_bad at_least (index_rules (dialect_of plan.entry.now.dialect) index.now.setting plan.entry.now.form []) result
-        (S.left source.old) (S.left source.new) (K.taken out.old) (K.taken out.new) }
-    ensures read_fault { result ≡ Status.ReadFault → HasRisen (S.faults source.old) (S.faults source.new) }
-    ensures write_fault { result ≡ Status.WriteFault → HasRisen (K.faults out.old) (K.faults out.new) }
-{
-    let (status, _) = work_beside(
-        rt,
-        desk,
-        index,
-        gate,
-        workers,
-        &mut ||
-            requires { IsNewSide desk.now.queues index.now side.now }
-            ensures ends { EndsOf is_bad at_least (index_rules (dialect_of plan.entry.now.dialect) index.entry.now.setting plan.entry.now.form []) result.0
-                (S.left source.entry.now) (S.left source.exit.now) (K.taken out.entry.now) (K.taken out.exit.now) }
-            ensures read_fault { result.0 ≡ Status.ReadFault → HasRisen (S.faults source.entry.now) (S.faults source.exit.now) }
-            ensures write_fault { result.0 ≡ Status.WriteFault → HasRisen (K.faults out.entry.now) (K.faults out.exit.now) }
-        { serve(rt, alloc, desk, index, gate, side, plan, source, out, count) },
-    );
-    status
 }
 
 /// Runs over the lines that the source gives, with 1 to 16 workers that live for the whole run and answer
@@ -165,17 +117,21 @@ where
         writer,
         converter,
     });
-    serve_beside(
-        rt,
-        alloc,
-        &desk,
-        &index,
-        gate,
-        all.as_mut_slice(),
-        &mut side,
+    let service = Service {
+        desk: &desk,
+        index: &index,
         plan,
-        source,
-        out,
         workers,
-    )
+    };
+    let all = all.as_mut_slice();
+    let (_, (status, _)) = join_mut(
+        rt,
+        &mut ||
+            requires { All (λ w. IsWorkerOf desk.queues index w) all.now }
+        { work_all(rt, &desk, &index, gate, all) },
+        &mut ||
+            requires { IsNewSide service.desk.now.queues service.index.now side }
+        { serve(rt, alloc, &service, &mut side, source, out, gate) },
+    );
+    status
 }

@@ -6,11 +6,14 @@ use Rattle.run_with_workers.proofs.run.serve.Goals as goal
 
 pub serve_lines-status-requires : goal.serve_lines-status-requires
 serve_lines-status-requires g c =
-    let n = new_side c.args.desk.now.queues c.args.index.now c.args.side.now c.in-Some.field-0 c.requires c.in-Some.ensures.value in
-    (index_rules (dialect_of c.args.plan.now.dialect) c.args.index.now.setting c.args.plan.now.form [], opens_index _ (dialect_of c.args.plan.now.dialect) n.0 n.1 n.2 n.3)
+    let s = c.args.service.now in
+    let how = dialect_of s.plan.now.dialect in
+    let n = new_side s.desk.now.queues s.index.now c.args.side.now c.in-Some.field-0 c.requires c.in-Some.ensures.value in
+    (index_rules how s.index.now.setting s.plan.now.form [], opens_index _ how n.0 n.1 n.2 n.3)
 
 pub returns-clause-ends : goal.returns-clause-ends
 returns-clause-ends g c =
-    let n = new_side c.args.desk.now.queues c.args.index.now c.args.side.now c.in-Some.field-0 c.requires c.in-Some.ensures.value in
-    c.serve_lines-status.ensures.ends (index_rules (dialect_of c.args.plan.now.dialect) c.args.index.now.setting c.args.plan.now.form [])
-    (opens_index _ (dialect_of c.args.plan.now.dialect) n.0 n.1 n.2 n.3)
+    let s = c.args.service.now in
+    let how = dialect_of s.plan.now.dialect in
+    let n = new_side s.desk.now.queues s.index.now c.args.side.now c.in-Some.field-0 c.requires c.in-Some.ensures.value in
+    c.serve_lines-status.ensures.ends (index_rules how s.index.now.setting s.plan.now.form []) (opens_index _ how n.0 n.1 n.2 n.3)
