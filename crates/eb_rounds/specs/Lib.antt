@@ -1,6 +1,7 @@
 pub mod Inputs
 pub mod Shown
 pub mod Works
+pub mod Working
 pub mod Standing
 pub mod Kept
 pub mod Takes

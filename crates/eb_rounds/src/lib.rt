@@ -12,6 +12,7 @@ mod held;
 mod input;
 mod reading;
 mod rounds;
+mod setup;
 mod tasks;
 mod working;
 

@@ -31,6 +31,7 @@ ghost use Rattle.eb_rounds.specs.Works.{entries_of, need_of_tasks, HasRoomForRef
 use crate::held::{FirstInput, FirstLine, Held, ThenInput, ThenLine};
 use crate::input::{Input, Kind};
 use crate::reading::read_rounds;
+use crate::setup::Setup;
 use crate::tasks::Tasks;
 use crate::working::{needs_of, work_tasks};
 use eb_base::{Gate, NoMemory};
@@ -352,8 +353,9 @@ impl Rounds {
         ensures err { OnErr result ((self.new ≡ self.old) × (writer.new ≡ writer.old) × (converter.new ≡ converter.old) × (text.new.items ≡ text.old.items)) }
     {
         let (mut ahead, mut held) = self.prepare(rt, alloc, dialect, text)?;
-        let first = work_tasks(rt, index, writer, converter, &mut ahead, gate, form, text);
-        let then = work_tasks(rt, index, writer, converter, &mut held, gate, form, text);
+        let setup = Setup { index, gate, form };
+        let first = work_tasks(rt, &setup, writer, converter, &mut ahead, text);
+        let then = work_tasks(rt, &setup, writer, converter, &mut held, text);
         converter.meet(index, writer.reader(index));
         self.close(Counts {
             documents: first.documents + then.documents,

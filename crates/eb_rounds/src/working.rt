@@ -1,19 +1,21 @@
 ghost use Rattle.eb_fields.specs.Dialect.{Dialect as Spoken};
-ghost use Rattle.std.specs.Prelude.{◌≡◌, ◌+◌, ◌*◌, ◌≤◌, ◌^◌, ℕ, List, [], length, map, sum_by, vec_len, vec_capacity};
+ghost use Rattle.std.specs.Prelude.{◌≡◌, ◌+◌, ◌*◌, ◌≤◌, ◌^◌, ℕ, List, length, map, sum_by, vec_len, vec_capacity};
 ghost use Rattle.std.specs.List.{AllZip, list_any};
 ghost use mathlib.Core.List.{IsPrefix};
 ghost use Rattle.run_index.specs.Conversions.{AreConverted};
 ghost use Rattle.eb_rounds.specs.Inputs.{HeldLine, ReadsLine};
 ghost use Rattle.eb_lines.specs.Text.{room_of};
-ghost use Rattle.eb_rounds.specs.Shown.{AreAnswered, AreAdded, IsRoundOfLines, WorksOff};
+ghost use Rattle.eb_rounds.specs.Shown.{AreAnswered, AreAdded, WorksOff};
+ghost use Rattle.eb_rounds.specs.Working.{AreWorkedOff};
 ghost use Rattle.eb_rounds.specs.Works.{asked_entry, asked_need, is_answer, is_add, given_entry, entries_of, need_of_tasks, count_of_tasks, HasRoomForRefusals};
 
 use crate::adding::add_all;
 use crate::answering::answer_all;
+use crate::setup::Setup;
 use crate::tasks::{Asked, AskedWork, Given, GivenWork, Tasks};
 use eb_base::Gate;
-use eb_engine::{Converter, Index, Reader, Writer};
-use eb_lines::{Form, line_room};
+use eb_engine::{Converter, Reader, Writer};
+use eb_lines::line_room;
 use run_index::{Counts, convert_all, has_waiting};
 use std::thread::{Threads, join_mut};
 
@@ -87,238 +89,143 @@ fn has_add(tasks: &[Given]) -> bool
     false
 }
 
-// Adds the documents while the queries are answered: a thread is started. Takes no memory.
-fn work_beside<R: Threads + Sync, G: Gate + Sync>(
+// Answers the queries and adds the documents of a round: at the same time where there are both, for
+// which a thread is started, else by one thread. What the document lines print stands apart. Takes
+// no memory.
+fn work_apart<R: Threads + Sync, G: Gate + Sync>(
     rt: &R,
-    index: &Index,
+    setup: &Setup<'_, G>,
     writer: &mut Writer,
     reader: &mut Reader,
-    asked: &mut [Asked],
-    given: &[Given],
-    gate: &G,
-    form: Form,
-    answers: &mut Vec<u8>,
-    refusals: &mut Vec<u8>,
+    tasks: &mut Tasks,
+    text: &mut Vec<u8>,
 ) -> ((u64, u64), (u64, u64))
-    requires writer { writer.old.index ≡ index.now }
-    requires reader { reader.old.index ≡ index.now }
-    requires answers { vec_len answers.old + sum_by asked_need asked.old ≤ vec_capacity answers.old }
-    requires refusals { vec_len refusals.old + room_of 0 * length given.now ≤ vec_capacity refusals.old }
+    requires writer { writer.old.index ≡ setup.now.index.now }
+    requires reader { reader.old.index ≡ setup.now.index.now }
+    requires text { vec_len text.old + sum_by asked_need tasks.old.asked.items ≤ vec_capacity text.old }
+    requires refusals { vec_len tasks.old.refusals + room_of 0 * length tasks.old.given.items ≤ vec_capacity tasks.old.refusals }
     ensures writer { writer.new.index ≡ writer.old.index }
     ensures reader { reader.new.index ≡ reader.old.index }
-    ensures answers { vec_len answers.new ≤ vec_len answers.old + sum_by asked_need asked.old }
-    ensures room { vec_capacity answers.old ≤ vec_capacity answers.new }
-    ensures refusals { vec_len refusals.new ≤ vec_len refusals.old + room_of 0 * length given.now }
-    ensures answered { AreAnswered form reader.old.docs reader.new.docs (map asked_entry asked.old) answers.old.items answers.new.items result.1.0 result.1.1 }
-    ensures added { AreAdded form index.now.setting writer.old.docs writer.new.docs
-        (map given_entry given.now) refusals.old.items refusals.new.items result.0.0 result.0.1 }
+    ensures len { vec_len text.new ≤ vec_len text.old + sum_by asked_need tasks.old.asked.items }
+    ensures room { vec_capacity text.old ≤ vec_capacity text.new }
+    ensures refusals { vec_len tasks.new.refusals ≤ vec_len tasks.old.refusals + room_of 0 * length tasks.old.given.items }
+    ensures answered { AreAnswered setup.now.form reader.old.docs reader.new.docs (map asked_entry tasks.old.asked.items)
+        text.old.items text.new.items result.1.0 result.1.1 }
+    ensures added { AreAdded setup.now.form setup.now.index.now.setting writer.old.docs writer.new.docs (map given_entry tasks.old.given.items)
+        tasks.old.refusals.items tasks.new.refusals.items result.0.0 result.0.1 }
 {
-    // The first call goes to the new thread. Adding stays on this one, whose caches know the index.
-    let (answered, added) = join_mut(
-        rt,
-        &mut || answer_all(index, reader, asked, gate, form, answers),
-        &mut || add_all(index, writer, given, gate, form, refusals),
-    );
-    (added, answered)
-}
-
-// Adds the documents and answers the queries, at the same time where there are both, else by one
-// thread.
-fn work_either<R: Threads + Sync, G: Gate + Sync>(
-    rt: &R,
-    index: &Index,
-    writer: &mut Writer,
-    reader: &mut Reader,
-    asked: &mut [Asked],
-    given: &[Given],
-    gate: &G,
-    form: Form,
-    answers: &mut Vec<u8>,
-    refusals: &mut Vec<u8>,
-) -> ((u64, u64), (u64, u64))
-    requires writer { writer.old.index ≡ index.now }
-    requires reader { reader.old.index ≡ index.now }
-    requires answers { vec_len answers.old + sum_by asked_need asked.old ≤ vec_capacity answers.old }
-    requires refusals { vec_len refusals.old + room_of 0 * length given.now ≤ vec_capacity refusals.old }
-    ensures writer { writer.new.index ≡ writer.old.index }
-    ensures reader { reader.new.index ≡ reader.old.index }
-    ensures answers { vec_len answers.new ≤ vec_len answers.old + sum_by asked_need asked.old }
-    ensures room { vec_capacity answers.old ≤ vec_capacity answers.new }
-    ensures refusals { vec_len refusals.new ≤ vec_len refusals.old + room_of 0 * length given.now }
-    ensures answered { AreAnswered form reader.old.docs reader.new.docs (map asked_entry asked.old) answers.old.items answers.new.items result.1.0 result.1.1 }
-    ensures added { AreAdded form index.now.setting writer.old.docs writer.new.docs
-        (map given_entry given.now) refusals.old.items refusals.new.items result.0.0 result.0.1 }
-{
+    let Tasks {
+        asked,
+        given,
+        refusals,
+    } = tasks;
+    let asked = asked.as_mut_slice();
+    let given = given.as_slice();
     if has_answer(asked) && has_add(given) {
-        return work_beside(
-            rt, index, writer, reader, asked, given, gate, form, answers, refusals,
+        // The first call goes to the new thread. Adding stays on this one, whose caches know the
+        // index.
+        let (answered, added) = join_mut(
+            rt,
+            &mut || answer_all(setup, reader, asked, text),
+            &mut || add_all(setup, writer, given, refusals),
         );
+        return (added, answered);
     }
-    let answered = answer_all(index, reader, asked, gate, form, answers);
-    let added = add_all(index, writer, given, gate, form, refusals);
+    let answered = answer_all(setup, reader, asked, text);
+    let added = add_all(setup, writer, given, refusals);
     (added, answered)
 }
 
 // Adds the documents and answers the queries of a round. Takes no memory.
 fn work_round<R: Threads + Sync, G: Gate + Sync>(
     rt: &R,
-    index: &Index,
+    setup: &Setup<'_, G>,
     writer: &mut Writer,
-    asked: &mut [Asked],
-    given: &[Given],
-    gate: &G,
-    form: Form,
+    tasks: &mut Tasks,
     text: &mut Vec<u8>,
-    refusals: &mut Vec<u8>,
 ) -> ((u64, u64), (u64, u64))
-    requires writer { writer.old.index ≡ index.now }
-    requires text { vec_len text.old + (sum_by asked_need asked.old + room_of 0 * length given.now) ≤ vec_capacity text.old }
-    requires refusals { (refusals.old.items ≡ []) × (vec_len refusals.old ≡ 0) × (room_of 0 * length given.now ≤ vec_capacity refusals.old) }
-    ensures index { writer.new.index ≡ writer.old.index }
-    ensures len { vec_len text.new ≤ vec_len text.old + (sum_by asked_need asked.old + room_of 0 * length given.now) }
-    ensures room { vec_capacity text.old ≤ vec_capacity text.new }
-    ensures round { IsRoundOfLines form index.now.setting writer.old.docs writer.new.docs
-        (map asked_entry asked.old) (map given_entry given.now) text.old.items text.new.items
-        result.1.0 result.0.0 result.1.1 result.0.1 }
+    requires writer { writer.old.index ≡ setup.now.index.now }
+    requires text { vec_len text.old + need_of_tasks tasks.old ≤ vec_capacity text.old }
+    requires refusals { HasRoomForRefusals tasks.old }
+    ensures { AreWorkedOff setup.now.form setup.now.index.now.setting tasks.old writer.old writer.new text.old text.new result.0 result.1 }
 {
-    let mut reader = writer.reader(index);
-    let counts = work_either(
-        rt,
-        index,
-        writer,
-        &mut reader,
-        asked,
-        given,
-        gate,
-        form,
-        text,
-        refusals,
-    );
-    writer.meet(index, reader);
-    text.extend_from_slice(refusals.as_slice()).unwrap();
-    counts
-}
-
-// Converts while the lines of a round are processed: a thread is started. Takes no memory.
-fn convert_beside<R: Threads + Sync, G: Gate + Sync>(
-    rt: &R,
-    index: &Index,
-    writer: &mut Writer,
-    converter: &mut Converter,
-    asked: &mut [Asked],
-    given: &[Given],
-    gate: &G,
-    form: Form,
-    text: &mut Vec<u8>,
-    refusals: &mut Vec<u8>,
-) -> ((u64, u64), (u64, u64))
-    requires writer { writer.old.index ≡ index.now }
-    requires converter { converter.old.index ≡ index.now }
-    requires text { vec_len text.old + (sum_by asked_need asked.old + room_of 0 * length given.now) ≤ vec_capacity text.old }
-    requires refusals { (refusals.old.items ≡ []) × (vec_len refusals.old ≡ 0) × (room_of 0 * length given.now ≤ vec_capacity refusals.old) }
-    ensures index { writer.new.index ≡ writer.old.index }
-    ensures converter { converter.new.index ≡ converter.old.index }
-    ensures grown { converter.old.converted ≤ converter.new.converted }
-    ensures converted { AreConverted index.now.setting converter.old.docs converter.new.converted }
-    ensures len { vec_len text.new ≤ vec_len text.old + (sum_by asked_need asked.old + room_of 0 * length given.now) }
-    ensures room { vec_capacity text.old ≤ vec_capacity text.new }
-    ensures round { IsRoundOfLines form index.now.setting writer.old.docs writer.new.docs
-        (map asked_entry asked.old) (map given_entry given.now) text.old.items text.new.items
-        result.1.0 result.0.0 result.1.1 result.0.1 }
-{
-    let ((), counts) = join_mut(
-        rt,
-        &mut || convert_all(index, converter),
-        &mut ||
-            requires writer { writer.now.index ≡ index.now }
-            requires text { vec_len text.now + (sum_by asked_need asked.now + room_of 0 * length given.now) ≤ vec_capacity text.now }
-            requires refusals { (refusals.now.items ≡ []) × (vec_len refusals.now ≡ 0) × (room_of 0 * length given.now ≤ vec_capacity refusals.now) }
-        { work_round(rt, index, writer, asked, given, gate, form, text, refusals) },
-    );
+    let mut reader = writer.reader(setup.index);
+    let counts = work_apart(rt, setup, writer, &mut reader, tasks, text);
+    writer.meet(setup.index, reader);
+    text.extend_from_slice(tasks.refusals.as_slice()).unwrap();
     counts
 }
 
 // Processes the lines of a round, and converts all segments that are closed before it: at the same
-// time where both is to be done. The converter knows the history. Takes no memory.
+// time where both is to be done, for which a thread is started. The converter knows the history.
+// Takes no memory.
+#[tactic(auto, using(run_index::proofs::Conversions::converted_front))]
 fn work_and_convert<R: Threads + Sync, G: Gate + Sync>(
     rt: &R,
-    index: &Index,
+    setup: &Setup<'_, G>,
     writer: &mut Writer,
     converter: &mut Converter,
-    asked: &mut [Asked],
-    given: &[Given],
-    gate: &G,
-    form: Form,
+    tasks: &mut Tasks,
     text: &mut Vec<u8>,
-    refusals: &mut Vec<u8>,
 ) -> ((u64, u64), (u64, u64))
-    requires writer { writer.old.index ≡ index.now }
-    requires converter { converter.old.index ≡ index.now }
+    requires writer { writer.old.index ≡ setup.now.index.now }
+    requires converter { converter.old.index ≡ setup.now.index.now }
     requires told { IsPrefix writer.old.docs converter.old.docs }
-    requires text { vec_len text.old + (sum_by asked_need asked.old + room_of 0 * length given.now) ≤ vec_capacity text.old }
-    requires refusals { (refusals.old.items ≡ []) × (vec_len refusals.old ≡ 0) × (room_of 0 * length given.now ≤ vec_capacity refusals.old) }
-    ensures index { writer.new.index ≡ writer.old.index }
+    requires text { vec_len text.old + need_of_tasks tasks.old ≤ vec_capacity text.old }
+    requires refusals { HasRoomForRefusals tasks.old }
     ensures converter { converter.new.index ≡ converter.old.index }
     ensures grown { converter.old.converted ≤ converter.new.converted }
-    ensures converted { AreConverted index.now.setting writer.old.docs converter.new.converted }
-    ensures len { vec_len text.new ≤ vec_len text.old + (sum_by asked_need asked.old + room_of 0 * length given.now) }
-    ensures room { vec_capacity text.old ≤ vec_capacity text.new }
-    ensures round { IsRoundOfLines form index.now.setting writer.old.docs writer.new.docs
-        (map asked_entry asked.old) (map given_entry given.now) text.old.items text.new.items
-        result.1.0 result.0.0 result.1.1 result.0.1 }
+    ensures converted { AreConverted setup.now.index.now.setting writer.old.docs converter.new.converted }
+    ensures round { AreWorkedOff setup.now.form setup.now.index.now.setting tasks.old writer.old writer.new text.old text.new result.0 result.1 }
 {
     if !has_waiting(writer, converter) {
-        return work_round(rt, index, writer, asked, given, gate, form, text, refusals);
+        return work_round(rt, setup, writer, tasks, text);
     }
-    if has_answer(asked) || has_add(given) {
-        return convert_beside(
-            rt, index, writer, converter, asked, given, gate, form, text, refusals,
+    if has_answer(tasks.asked.as_slice()) || has_add(tasks.given.as_slice()) {
+        let ((), counts) = join_mut(
+            rt,
+            &mut || convert_all(setup.index, converter),
+            &mut ||
+                requires writer { writer.now.index ≡ setup.now.index.now }
+                requires text { vec_len text.now + need_of_tasks tasks.now ≤ vec_capacity text.now }
+                requires refusals { HasRoomForRefusals tasks.now }
+            { work_round(rt, setup, writer, tasks, text) },
         );
+        return counts;
     }
-    convert_all(index, converter);
-    work_round(rt, index, writer, asked, given, gate, form, text, refusals)
+    convert_all(setup.index, converter);
+    work_round(rt, setup, writer, tasks, text)
 }
 
 // The converter learns the history; then the lines of a round are processed, and all segments that
 // are closed before it converted. Takes no memory.
 pub(crate) fn work_tasks<R: Threads + Sync, G: Gate + Sync>(
     rt: &R,
-    index: &Index,
+    setup: &Setup<'_, G>,
     writer: &mut Writer,
     converter: &mut Converter,
     tasks: &mut Tasks,
-    gate: &G,
-    form: Form,
     text: &mut Vec<u8>,
 ) -> Counts
-    requires writer { writer.old.index ≡ index.now }
-    requires converter { converter.old.index ≡ index.now }
+    requires writer { writer.old.index ≡ setup.now.index.now }
+    requires converter { converter.old.index ≡ setup.now.index.now }
     requires few { count_of_tasks tasks.old ≤ 2 ^ 16 }
     requires text { vec_len text.old + need_of_tasks tasks.old ≤ vec_capacity text.old }
     requires refusals { HasRoomForRefusals tasks.old }
     ensures index { writer.new.index ≡ writer.old.index }
     ensures converter { converter.new.index ≡ converter.old.index }
     ensures grown { converter.old.converted ≤ converter.new.converted }
-    ensures converted { AreConverted index.now.setting writer.old.docs converter.new.converted }
+    ensures converted { AreConverted setup.now.index.now.setting writer.old.docs converter.new.converted }
     ensures len { vec_len text.new ≤ vec_len text.old + need_of_tasks tasks.old }
     ensures room { vec_capacity text.old ≤ vec_capacity text.new }
     ensures works { (how : Spoken) (held : List HeldLine) → AllZip (ReadsLine how) held (entries_of tasks.old)
-        → WorksOff how form index.now.setting held writer.old.docs writer.new.docs text.old.items text.new.items
+        → WorksOff how setup.now.form setup.now.index.now.setting held writer.old.docs writer.new.docs text.old.items text.new.items
         result.documents result.queries result.refused }
     ensures few { result.documents + (result.queries + result.refused) ≤ count_of_tasks tasks.old }
 {
-    converter.meet(index, writer.reader(index));
+    converter.meet(setup.index, writer.reader(setup.index));
     let ((documents, full), (queries, refused)) = work_and_convert(
-        rt,
-        index,
-        writer,
-        converter,
-        tasks.asked.as_mut_slice(),
-        tasks.given.as_slice(),
-        gate,
-        form,
-        text,
-        &mut tasks.refusals,
+        rt, setup, writer, converter, tasks, text,
     );
     Counts {
         documents,

@@ -45,5 +45,5 @@ returns-clause-text g c =
     let docs = c.count_with-seen.new.reader.docs in
     let e = c.count_with-seen.ensures in
     let few : length docs < 2 ^ 64 = omega (arith, e.count) in
-    put_as c.args.form c.args.number c.count_with-seen.result (query_of c.args.frame.now) docs c.args.tally.now c.clear.new.self c.count_with-seen.new.tally c.args.text.now.items
+    put_as c.args.setup.now.form c.args.number c.count_with-seen.result (query_of c.args.frame.now) docs c.args.tally.now c.clear.new.self c.count_with-seen.new.tally c.args.text.now.items
     c.put_count.new.text.items c.buckets.result.now c.total.result c.put_count.ensures.text c.total.ensures c.buckets.ensures e.count few c.clear.ensures e.counts
