@@ -1,5 +1,5 @@
 -- What the rules say of numbers and pairs.
-use Rattle.std.proofs.Common.{◌≡◌, ℕ, zero, suc, ◌<◌, ◌≤◌, ◌⊎◌, inl, inr, ⊎_elim, List, [], ◌∷◌, Bool, true, false, cond, ◌==◌, ◌&&◌, refl, ap, sym, ◌∙◌, subst, arith}
+use Rattle.std.proofs.Common.{◌≡◌, ℕ, zero, suc, ◌<◌, ◌≤◌, ◌⊎◌, inl, inr, ⊎_elim, List, [], ◌∷◌, Bool, true, false, cond, ◌==◌, refl, ap, sym, ◌∙◌, subst, arith}
 use Rattle.std.specs.Prelude.{All}
 use Rattle.std.proofs.lemmas.List.Elements.{All-head, All-tail}
 use native.Mathlib.Decide.{ℕ_discrete}
@@ -10,7 +10,7 @@ use Rattle.eb_desk.specs.declared.rule.Hand.{Hand}
 use Rattle.eb_desk.specs.declared.rule.View.{View}
 use Rattle.eb_desk.specs.declared.rule.View.TheVariants.{At}
 use Rattle.eb_desk.specs.Rule.{hand_of, total, HaveRisingNumbers, IsTaker}
-use Rattle.eb_desk.specs.Laws.{times, stands, JobsAreTakenOnce, JobsAreKnown, AnswersAreKept}
+use Rattle.eb_desk.specs.Laws.{times, is_same, stands, JobsAreTakenOnce, JobsAreKnown, AnswersAreKept}
 
 -- above all of them there is none
 none_above : (n : ℕ) (ps : List Pair) → All (λ q. n < q.number) ps → times n ps ≡ 0
@@ -73,7 +73,7 @@ module _ {J D : Type 0} (pair : J → Pair) (made : D → J → Type 0) where
   pub was_put : JobsAreKnown pair made
   was_put home items views b k here p =
       let all = total_only (λ h. stands p h.put) views b.clerk (At home k) here (λ by v e. let s = b.balanced.seated by v e in by_kind by v s.0 s.1 s.2 s.0.puts refl) in
-      let o = b.balanced.pairs (λ q. cond (q.number == p.number && q.told == p.told) 1 0) in
+      let o = b.balanced.pairs (λ q. cond (is_same p q) 1 0) in
       omega (arith, all, o)
     where
       by_kind : (by : ℕ) (v : View D) (h : Hand) → v ≡ At home h → IsTaker b.clerk by h → (c : Bool) → h.puts ≡ c → (by ≡ b.clerk) ⊎ (stands p (hand_of v).put ≡ 0)
@@ -82,4 +82,4 @@ module _ {J D : Type 0} (pair : J → Pair) (made : D → J → Type 0) where
 
 -- what the workers put is in the queue, or was taken
 pub kept : {A D : Type 0} (pair : A → Pair) (made : D → A → Type 0) → AnswersAreKept pair made
-kept pair made home items views b p = b.balanced.pairs (λ q. cond (q.number == p.number && q.told == p.told) 1 0)
+kept pair made home items views b p = b.balanced.pairs (λ q. cond (is_same p q) 1 0)

@@ -5,3 +5,4 @@ pub mod AnswersKept
 pub mod Books
 pub mod Law
 pub mod Asking
+pub mod Asks

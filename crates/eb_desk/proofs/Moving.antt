@@ -64,26 +64,53 @@ module _ {D : Type 0} where
         omega (arith, p, t, stops, o);
   }
 
-  -- a new pass comes that has done nothing
-  pub joined : (home : D) (kind : ℕ → Hand → Type 0) (ps : List Pair) (m : ℕ) (views : List (View D)) (puts : Bool) → Balanced home kind ps m views
-      → ((by : ℕ) → kind by (idle puts)) → Balanced home kind ps m (views ++ At home (idle puts) ∷ [])
-  joined home kind ps m views puts b is = record {
+  -- one pass comes to know or to permit more, and puts and takes nothing; kinds may change with it
+  pub told : (home : D) (kind new : ℕ → Hand → Type 0) (ps : List Pair) (m : ℕ) (views : List (View D)) (by : ℕ) (h k : Hand) → Balanced home kind ps m views
+      → get_elem? views by ≡ some (At home h) → k.put ≡ h.put → k.taken ≡ h.taken → k.stops_put ≡ h.stops_put → k.stops_taken ≡ h.stops_taken → new by k
+      → ((j : ℕ) (x : Hand) → j ≢ by → kind j x → new j x) → Balanced home new ps m (set views by (At home k))
+  told home kind new ps m views by h k b at put taken stops_put stops_taken is others = record {
+    seated = λ j u e.
+        ⊎_elim
+        (λ (x : (j ≡ by) × (At home k ≡ u)). (k, sym x.1, subst (λ (i : ℕ). new i k) (sym x.0) is))
+        (λ (x : (j ≢ by) × (get_elem? views j ≡ some u)). let s = b.seated j u x.1 in (s.0, s.1, others j s.0 x.0 s.2))
+        (at_set views by j (At home k) u e);
+    pairs = λ g.
+        let p = total_set (λ x. weigh g x.put) views by (At home h) (At home k) at in
+        let t = total_set (λ x. weigh g x.taken) views by (At home h) (At home k) at in
+        let o = b.pairs g in
+        omega (arith, p, t, o, ap (weigh g) put, ap (weigh g) taken);
+    stopped =
+        let p = total_set (λ x. x.stops_put) views by (At home h) (At home k) at in
+        let t = total_set (λ x. x.stops_taken) views by (At home h) (At home k) at in
+        let o = b.stopped in
+        omega (arith, p, t, o, stops_put, stops_taken);
+  }
+
+  -- a new pass comes that has put and taken nothing
+  pub joined_as : (home : D) (kind : ℕ → Hand → Type 0) (ps : List Pair) (m : ℕ) (views : List (View D)) (n : Hand) → Balanced home kind ps m views
+      → n.put ≡ [] → n.taken ≡ [] → n.stops_put ≡ 0 → n.stops_taken ≡ 0 → ((by : ℕ) → kind by n) → Balanced home kind ps m (views ++ At home n ∷ [])
+  joined_as home kind ps m views n b put taken stops_put stops_taken is = record {
     seated = λ j u e.
         ⊎_elim
         (λ x. b.seated j u x)
-        (λ (same : At home (idle puts) ≡ u). (idle puts, sym same, is j))
-        (at_snoc views (At home (idle puts)) u j e);
+        (λ (same : At home n ≡ u). (n, sym same, is j))
+        (at_snoc views (At home n) u j e);
     pairs = λ g.
-        let p = total_last (λ x. weigh g x.put) views (At home (idle puts)) in
-        let t = total_last (λ x. weigh g x.taken) views (At home (idle puts)) in
+        let p = total_last (λ x. weigh g x.put) views (At home n) in
+        let t = total_last (λ x. weigh g x.taken) views (At home n) in
         let o = b.pairs g in
-        omega (arith, p, t, o);
+        omega (arith, p, t, o, ap (weigh g) put, ap (weigh g) taken);
     stopped =
-        let p = total_last (λ x. x.stops_put) views (At home (idle puts)) in
-        let t = total_last (λ x. x.stops_taken) views (At home (idle puts)) in
+        let p = total_last (λ x. x.stops_put) views (At home n) in
+        let t = total_last (λ x. x.stops_taken) views (At home n) in
         let o = b.stopped in
-        omega (arith, p, t, o);
+        omega (arith, p, t, o, stops_put, stops_taken);
   }
+
+  -- a new pass comes that has done nothing
+  pub joined : (home : D) (kind : ℕ → Hand → Type 0) (ps : List Pair) (m : ℕ) (views : List (View D)) (puts : Bool) → Balanced home kind ps m views
+      → ((by : ℕ) → kind by (idle puts)) → Balanced home kind ps m (views ++ At home (idle puts) ∷ [])
+  joined home kind ps m views puts b is = joined_as home kind ps m views (idle puts) b refl refl refl refl is
 
   -- at first
   pub first_seats : (home : D) (kind : ℕ → Hand → Type 0) (puts : Bool) → kind 0 (idle puts) → Balanced home kind [] 0 (At home (idle puts) ∷ [])

@@ -7,7 +7,8 @@ use Rattle.eb_desk.specs.declared.job.Task.TheVariants.{Job as a_job, Stop}
 use Rattle.eb_desk.specs.declared.rule.Pair.{Pair}
 use Rattle.eb_desk.specs.declared.rule.View.{View}
 use Rattle.eb_desk.specs.declared.rule.View.TheVariants.{At}
-use Rattle.eb_desk.specs.Rule.{hand, hand_of}
+use Rattle.eb_desk.specs.Homes.{Home, numbers_of, home_at}
+use Rattle.eb_desk.specs.Rule.{hand, clerk_hand, worker_hand, hand_of}
 use Rattle.eb_desk.specs.Steps.{home_of_view}
 
 -- which two queues
@@ -101,35 +102,49 @@ IsOpen queues home c = (c.queues ≡ queues) × (c.home ≡ home) × (c.stops �
 
 -- ---- by their passes at the two queues
 
-abbrev pub clerk_book : {J A D : Type 0} → D → Pass (Task J) (View D) → Pass A (View D) → (ClerkBook D)
-clerk_book nowhere j a = record {
+-- no home
+abbrev pub nowhere : Home
+nowhere = ([], [])
+
+-- the home of the clerk at its desk, and that of the worker
+abbrev pub clerk_home : ClerkBook (List ℕ) → Home
+clerk_home c = home_at c.home c.queues.answers
+
+abbrev pub worker_home : WorkerBook (List ℕ) → Home
+worker_home w = home_at w.home w.queues.answers
+
+abbrev pub clerk_book : {J A : Type 0} → Pass (Task J) (View Home) → Pass A (View Home) → ClerkBook (List ℕ)
+clerk_book j a = record {
   queues = record { jobs = j.table_id; answers = a.table_id };
-  home = home_of_view nowhere (view j);
+  home = (home_of_view nowhere (view j)).0;
   put = (hand_of (view j)).put;
   stops = (hand_of (view j)).stops_put;
   taken = (hand_of (view j)).taken;
   answered = (hand_of (view a)).taken;
 }
 
--- passes of a clerk: one puts and takes jobs, and has taken no stop; the other takes answers
-pub record IsClerk {J A D : Type 0} (nowhere : D) (j : Pass (Task J) (View D)) (a : Pass A (View D)) : Type 0 where
+-- passes of a clerk: one puts and takes jobs, and has taken no stop; the other takes answers, and
+-- has permitted those to the jobs that were put
+pub record IsClerk {J A : Type 0} (j : Pass (Task J) (View Home)) (a : Pass A (View Home)) : Type 0 where
   pub jobs : view j ≡ At (home_of_view nowhere (view j)) (hand true (hand_of (view j)).put (hand_of (view j)).stops_put (hand_of (view j)).taken 0)
-  pub answers : view a ≡ At (home_of_view nowhere (view j)) (hand false [] 0 (hand_of (view a)).taken 0)
+  pub answers : view a ≡ At (home_of_view nowhere (view j)) (clerk_hand (hand_of (view a)).taken (hand_of (view j)).put (hand_of (view a)).known)
+  pub table : (home_of_view nowhere (view j)).1 ≡ numbers_of a.table_id
   pub no_job : j.me.1 ≡ []
   pub no_answer : a.me.1 ≡ []
 
-abbrev pub worker_book : {J A D : Type 0} → D → Pass (Task J) (View D) → Pass A (View D) → (WorkerBook D)
-worker_book nowhere j a = record {
+abbrev pub worker_book : {J A : Type 0} → Pass (Task J) (View Home) → Pass A (View Home) → WorkerBook (List ℕ)
+worker_book j a = record {
   queues = record { jobs = j.table_id; answers = a.table_id };
-  home = home_of_view nowhere (view j);
+  home = (home_of_view nowhere (view j)).0;
   taken = (hand_of (view j)).taken;
   stops = (hand_of (view j)).stops_taken;
   put = (hand_of (view a)).put;
 }
 
 -- passes of a worker: one takes jobs and stops, the other puts answers
-pub record IsWorker {J A D : Type 0} (nowhere : D) (j : Pass (Task J) (View D)) (a : Pass A (View D)) : Type 0 where
+pub record IsWorker {J A : Type 0} (j : Pass (Task J) (View Home)) (a : Pass A (View Home)) : Type 0 where
   pub jobs : view j ≡ At (home_of_view nowhere (view j)) (hand false [] 0 (hand_of (view j)).taken (hand_of (view j)).stops_taken)
-  pub answers : view a ≡ At (home_of_view nowhere (view j)) (hand true (hand_of (view a)).put 0 [] 0)
+  pub answers : view a ≡ At (home_of_view nowhere (view j)) (worker_hand (hand_of (view a)).put (hand_of (view a)).known)
+  pub table : (home_of_view nowhere (view j)).1 ≡ numbers_of a.table_id
   pub no_job : j.me.1 ≡ []
   pub no_answer : a.me.1 ≡ []

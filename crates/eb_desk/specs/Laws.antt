@@ -1,5 +1,5 @@
 -- What the rules say of numbers and pairs.
-use Rattle.std.specs.Prelude.{◌≡◌, ℕ, ◌+◌, ◌≤◌, ◌==◌, ◌&&◌, cond, List, map}
+use Rattle.std.specs.Prelude.{◌≡◌, ℕ, ◌+◌, ◌≤◌, Bool, ◌==◌, ◌&&◌, cond, bytes_eq, List, map}
 use mathlib.Core.Option.{some}
 use lib.ListN.{get_elem?}
 use Rattle.eb_desk.specs.declared.job.Task.{Task}
@@ -13,9 +13,13 @@ use Rattle.eb_desk.specs.Rule.{job_pairs, weigh, total, JobsOf, AnswersOf}
 abbrev pub times : ℕ → List Pair → ℕ
 times n ps = weigh (λ p. cond (p.number == n) 1 0) ps
 
+-- whether two pairs are the same
+abbrev pub is_same : Pair → Pair → Bool
+is_same p q = q.number == p.number && q.told == p.told && bytes_eq q.asks p.asks
+
 -- how often a pair occurs in a list
 abbrev pub stands : Pair → List Pair → ℕ
-stands p ps = weigh (λ q. cond (q.number == p.number && q.told == p.told) 1 0) ps
+stands p ps = weigh (λ q. cond (is_same p q) 1 0) ps
 
 module _ {J D : Type 0} (pair : J → Pair) (made : D → J → Type 0) where
   -- no number occurs twice among the queue of jobs and what the clerk and the workers took of it:

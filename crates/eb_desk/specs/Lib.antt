@@ -1,3 +1,5 @@
+pub mod Homes
+pub mod Asks
 pub mod Rule
 pub mod Steps
 pub mod Desk

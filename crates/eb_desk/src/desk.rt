@@ -62,13 +62,13 @@ impl<J: Job> Desk<J> {
         let mut all = Vec::with_capacity(alloc, workers as usize)?;
         all.push(Worker {
             number: 0,
-            jobs: cut_taker::<J, Brand>(&jobs, &mut clerk_jobs, place),
+            jobs: cut_taker::<J, Brand>(&jobs, &mut clerk_jobs, place, &answers),
             answers: cut_putter::<J, Brand>(&answers, &mut clerk_answers, place),
         })?;
         for number in 1..workers {
             all.push(Worker {
                 number,
-                jobs: cut_taker::<J, Brand>(&jobs, &mut clerk_jobs, place),
+                jobs: cut_taker::<J, Brand>(&jobs, &mut clerk_jobs, place, &answers),
                 answers: cut_putter::<J, Brand>(&answers, &mut clerk_answers, place),
             })?;
         }

@@ -20,6 +20,9 @@ pub use clerk::Clerk;
 pub use desk::Desk;
 pub use job::{Job, Task};
 pub use laws::{answers_are_kept, jobs_are_known, jobs_are_taken_once};
-pub use rule::{AnswerQueue, Answers, Hand, JobQueue, Jobs, Key, Pair, View};
+pub use rule::{
+    AnswerQueue, Answers, Asked, AskedOf, DeskView, Hand, Home, JobQueue, Jobs, Key, Pair, Permit,
+    View,
+};
 pub use worker::Worker;
 pub use working::{stop_all, work_all};

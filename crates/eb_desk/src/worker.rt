@@ -5,41 +5,41 @@
 //! also fails where another thread is in the way. A worker has a number because the kit proves
 //! nothing of slices of tokens without bytes.
 ghost use Rattle.std.specs.Prelude.{◌≡◌, ◌+◌, MatchOption};
-ghost use Rattle.eb_desk.specs.Rule.{IsMadeTask};
-ghost use Rattle.eb_desk.specs.Desk.{with_task, with_answer, HasWorked};
+ghost use Rattle.eb_desk.specs.Rule.{asked_pair, IsMadeTask, IsAsked, IsPermit};
+ghost use Rattle.eb_desk.specs.Desk.{with_task, with_answer, worker_home, HasWorked};
 
-use crate::calls::{put_answer, sure_task, take_task};
+use crate::calls::{put_answer, sure_task, take_permit, take_task};
 use crate::desk::Desk;
 use crate::job::{Job, Task};
-use crate::rule::{Key, View};
+use crate::rule::{Asked, AskedOf, DeskView, Permit};
 use crossbeam_queue::Pass;
 use crossbeam_utils::Backoff;
 use eb_base::Gate;
-use std::marker::Model;
+use std::marker::{Brand, Model};
 use std::sync::Wait;
 use std::thread;
 
 /// Takes jobs from a desk, and puts their answers there. It may go to a thread of its own.
-/// Contracts see the pairs (a number, and the job's document count) of the jobs that it took and of
-/// the answers that it put, and how many stops it took.
+/// Contracts see the pairs (a number, the job's document count, and what it asks) of the jobs that
+/// it took and of the answers that it put, and how many stops it took.
 #[derive(Drop)]
 pub struct Worker<J: Job> {
     // The kit proves nothing of slices of tokens without bytes, so a worker has its number among
     // those of its desk, from 0.
     pub(crate) number: u32,
-    pub(crate) jobs: Pass<Task<J>, View<Key>>,
-    pub(crate) answers: Pass<J::Answer, View<Key>>,
+    pub(crate) jobs: Pass<Task<AskedOf<J>>, DeskView>,
+    pub(crate) answers: Pass<J::Answer, DeskView>,
 }
 
 impl<J: Job> Model for Worker<J> {
-    ghost use Rattle.std.specs.Prelude.{ℕ, List, []};
+    ghost use Rattle.std.specs.Prelude.{ℕ, List};
     ghost use Rattle.eb_desk.specs.Desk.{WorkerBook, worker_book, IsWorker};
 
     ghost Value = { WorkerBook (List ℕ) };
 
-    ghost view = { λ w. worker_book [] w.jobs w.answers };
+    ghost view = { λ w. worker_book w.jobs w.answers };
 
-    ghost invariant = { λ w. IsWorker [] w.jobs w.answers };
+    ghost invariant = { λ w. IsWorker w.jobs w.answers };
 }
 
 // One more. At the greatest number it waits for ever.
@@ -57,26 +57,29 @@ fn counted<R: Wait>(rt: &R, count: u64) -> u64
 
 impl<J: Job> Worker<J> {
     // Takes a job or a stop, where there is one and no other thread is in the way.
-    fn take(&mut self, desk: &Desk<J>) -> Option<Task<J>>
+    fn take(&mut self, desk: &Desk<J>) -> Option<Task<AskedOf<J>>>
         requires desk { self.old.queues ≡ desk.now.queues }
-        ensures { MatchOption result (self.new ≡ self.old) (λ t. (self.new ≡ with_task J.pair self.old t) × IsMadeTask J.made self.old.home t) }
+        ensures { MatchOption result (self.new ≡ self.old)
+            (λ t. (self.new ≡ with_task (asked_pair J.pair) self.old t) × IsMadeTask (IsAsked J.pair J.made) (worker_home self.old) t) }
     {
         take_task(&desk.jobs, &mut self.jobs)
     }
 
     // Takes a job or a stop. `None` only if there was none at one moment of the call.
-    fn sure_take<R: Wait>(&mut self, rt: &R, desk: &Desk<J>) -> Option<Task<J>>
+    fn sure_take<R: Wait>(&mut self, rt: &R, desk: &Desk<J>) -> Option<Task<AskedOf<J>>>
         requires desk { self.old.queues ≡ desk.now.queues }
-        ensures { MatchOption result (self.new ≡ self.old) (λ t. (self.new ≡ with_task J.pair self.old t) × IsMadeTask J.made self.old.home t) }
+        ensures { MatchOption result (self.new ≡ self.old)
+            (λ t. (self.new ≡ with_task (asked_pair J.pair) self.old t) × IsMadeTask (IsAsked J.pair J.made) (worker_home self.old) t) }
     {
         sure_task(rt, &desk.jobs, &mut self.jobs)
     }
 
     // Takes a job or a stop, or sleeps until one is put. The sure take finds what was put before
     // the wait was announced.
-    fn take_or_sleep<R: Wait>(&mut self, rt: &R, desk: &Desk<J>) -> Option<Task<J>>
+    fn take_or_sleep<R: Wait>(&mut self, rt: &R, desk: &Desk<J>) -> Option<Task<AskedOf<J>>>
         requires desk { self.old.queues ≡ desk.now.queues }
-        ensures { MatchOption result (self.new ≡ self.old) (λ t. (self.new ≡ with_task J.pair self.old t) × IsMadeTask J.made self.old.home t) }
+        ensures { MatchOption result (self.new ≡ self.old)
+            (λ t. (self.new ≡ with_task (asked_pair J.pair) self.old t) × IsMadeTask (IsAsked J.pair J.made) (worker_home self.old) t) }
     {
         let key = desk.tasks_came.prepare_wait();
         match self.sure_take(rt, desk) {
@@ -89,9 +92,9 @@ impl<J: Job> Worker<J> {
     }
 
     // Takes a job or a stop: tries for a while, and then sleeps until one is put.
-    fn next_task<R: Wait>(&mut self, rt: &R, desk: &Desk<J>) -> Task<J>
+    fn next_task<R: Wait>(&mut self, rt: &R, desk: &Desk<J>) -> Task<AskedOf<J>>
         requires desk { self.old.queues ≡ desk.now.queues }
-        ensures { (self.new ≡ with_task J.pair self.old result) × IsMadeTask J.made self.old.home result }
+        ensures { (self.new ≡ with_task (asked_pair J.pair) self.old result) × IsMadeTask (IsAsked J.pair J.made) (worker_home self.old) result }
     {
         let backoff = Backoff::new();
         for _ in rt.forever() {
@@ -107,12 +110,14 @@ impl<J: Job> Worker<J> {
         unreachable!()
     }
 
-    // Puts an answer, and tries again while the queue is full.
-    fn put<R: Wait>(&mut self, rt: &R, desk: &Desk<J>, answer: J::Answer)
+    // Puts an answer that is permitted, and tries again while the queue is full.
+    fn put<R: Wait>(&mut self, rt: &R, desk: &Desk<J>, permit: Permit<J::Answer>, answer: J::Answer)
         requires desk { self.old.queues ≡ desk.now.queues }
         requires made { J.answer_made self.old.home answer }
+        requires permit { IsPermit (worker_home self.old) (J.answer_pair answer) permit }
         ensures { self.new ≡ with_answer self.old (J.answer_pair answer) }
     {
+        take_permit::<J, Brand>(&desk.answers, &mut self.answers, permit);
         put_answer(rt, &desk.answers, &mut self.answers, answer);
         desk.answers_came.notify_one();
     }
@@ -137,9 +142,9 @@ impl<J: Job> Worker<J> {
         for _ in rt.forever() {
             match self.next_task(rt, desk) {
                 Task::Stop => return count,
-                Task::Job(job) => {
+                Task::Job(Asked { job, permit }) => {
                     let answer = job.answered(with, gate);
-                    self.put(rt, desk, answer);
+                    self.put(rt, desk, permit, answer);
                     count = counted(rt, count);
                 }
             }

@@ -1,19 +1,21 @@
 -- What a job and an answer are to a contract.
 use Rattle.std.specs.Prelude.{ℕ, List, ◌∷◌, drop, slice_index_or}
 use Rattle.eb_cursor.specs.declared.frame.Frame.{Frame}
+use Rattle.eb_cursor.specs.Frames.{query_of, k_of}
+use Rattle.eb_desk.specs.Asks.{asks_of}
 use Rattle.eb_engine.specs.Tokens.{HistoryToken}
 use Rattle.eb_table.specs.Known.{Words}
 use Rattle.eb_serve.specs.declared.job.Job.{Job}
 use Rattle.eb_serve.specs.declared.job.Answer.{Answer}
 use Rattle.eb_desk.specs.declared.rule.Pair.{Pair}
 
--- a number, and how many documents a reader had seen
-abbrev pub pair : ℕ → ℕ → Pair
-pair number told = record { number = number; told = told }
+-- a number, how many documents a reader had seen, and what a frame asks
+abbrev pub pair : ℕ → ℕ → Frame → Pair
+pair number told frame = record { number = number; told = told; asks = asks_of (query_of frame) (k_of frame) }
 
 -- the pair of a job
 abbrev pub pair_of : Job → Pair
-pair_of j = pair j.number j.told
+pair_of j = pair j.number j.told j.frame
 
 -- the frame with a job's query
 abbrev pub asking : Job → Frame
@@ -25,7 +27,7 @@ asker j = j.reader
 
 -- the pair of an answer
 abbrev pub answer_pair : Answer → Pair
-answer_pair a = pair a.number a.told
+answer_pair a = pair a.number a.told a.frame
 
 -- the frame with an answer's query and ids
 abbrev pub answering : Answer → Frame

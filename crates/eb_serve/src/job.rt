@@ -60,7 +60,7 @@ impl Job {
     /// A job of this number. It keeps how many documents the reader has seen, as its `told`. Takes
     /// no memory.
     pub fn new(number: u64, frame: Frame, reader: Reader) -> Job
-        ensures pair { pair_of result ≡ pair number (length reader.docs) }
+        ensures pair { pair_of result ≡ pair number (length reader.docs) frame }
         ensures frame { asking result ≡ frame }
         ensures reader { asker result ≡ reader }
     {

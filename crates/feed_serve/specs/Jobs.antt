@@ -1,6 +1,8 @@
 -- What a job and an answer are to a contract.
 use Rattle.std.specs.Prelude.{ℕ}
 use Rattle.eb_cursor.specs.declared.frame.Frame.{Frame}
+use Rattle.eb_cursor.specs.Frames.{query_of, k_of}
+use Rattle.eb_desk.specs.Asks.{asks_of}
 use Rattle.feed_shared.specs.Turns.{FeedToken, history_of, counted}
 use Rattle.feed_serve.specs.declared.job.Job.{Job}
 use Rattle.feed_serve.specs.declared.job.Answer.{Answer}
@@ -10,13 +12,13 @@ use Rattle.eb_desk.specs.declared.rule.Pair.{Pair}
 abbrev pub known_to : FeedToken → ℕ
 known_to r = counted (history_of r.log r.docs)
 
--- a number, and how many documents a reader knew of
-abbrev pub pair : ℕ → ℕ → Pair
-pair number told = record { number = number; told = told }
+-- a number, how many documents a reader knew of, and what a frame asks
+abbrev pub pair : ℕ → ℕ → Frame → Pair
+pair number told frame = record { number = number; told = told; asks = asks_of (query_of frame) (k_of frame) }
 
 -- the pair of a job
 abbrev pub pair_of : Job → Pair
-pair_of j = pair j.number j.told
+pair_of j = pair j.number j.told j.frame
 
 -- the frame with a job's query
 abbrev pub asking : Job → Frame
@@ -28,7 +30,7 @@ asker j = j.reader
 
 -- the pair of an answer
 abbrev pub answer_pair : Answer → Pair
-answer_pair a = pair a.number a.told
+answer_pair a = pair a.number a.told a.frame
 
 -- the frame with an answer's query and ids
 abbrev pub answering : Answer → Frame

@@ -73,7 +73,7 @@ impl Job {
     /// before.
     pub fn new(number: u64, frame: Frame, feed: &mut FeedWriter) -> Result<Job, NoMemory>
         ensures feed { feed.new ≡ feed.old }
-        ensures pair { IfOk result (λ j. pair_of j ≡ pair number (known_to feed.old.feed)) }
+        ensures pair { IfOk result (λ j. pair_of j ≡ pair number (known_to feed.old.feed) frame) }
         ensures frame { IfOk result (λ j. asking j ≡ frame) }
         ensures reader { IfOk result (λ j. asker j ≡ feed.old.feed) }
         ensures made { (history : List Doc) → HasTaken feed.old history → IfOk result (λ j. IsReaderOf (feed_name feed.old) (asker j)) }

@@ -2,7 +2,6 @@
 use Rattle.eb_fields.specs.Dialect.{Dialect}
 use Rattle.std.proofs.Common.{◌≡◌, ℕ, ◌+◌, ◌-◌, ◌^◌, ◌<◌, ◌≤◌, inr, List, [], ◌∷◌, ◌++◌, length, take, min, refl, sym, ap, ap₂, subst, ◌∙◌, arith}
 use Rattle.std.specs.Prelude.{Option, Some, None, Result, Ok, Err, OnOk}
-use Rattle.std.proofs.lemmas.List.Elements.{All-nil}
 use Rattle.run_store.specs.Rules.{Rules}
 use Rattle.run_store.specs.Stores.{IsHolding, Places, Keeps as KeepsAll}
 use Rattle.eb_base.specs.Document.{Doc}
@@ -12,7 +11,6 @@ use Rattle.eb_count.specs.Tallies.{Numbers, HasCounted, AreCounts}
 use Rattle.eb_base.specs.Setting.{Setting}
 use Rattle.eb_cursor.specs.Frames.{query_of, k_of, ids_of}
 use Rattle.eb_desk.specs.Desk.{Queues, ClerkBook}
-use Rattle.eb_desk.specs.Rule.{IsAboveEach}
 use Rattle.eb_feed.specs.Generations.{joined_generations, kept}
 use Rattle.eb_feed.proofs.Generations.{kept_few}
 use Rattle.feed_serve.specs.Desk.{new_clerk}
@@ -43,7 +41,7 @@ taken_none : (w : WriterToken) → generations_of w.feed.log w.feed.docs ≡ [] 
 taken_none w e = let none : taken_by w ≡ [] = ap joined_generations e in (none, inr (none, e))
 
 pub opens_feed : (o : FeedOffice) (how : Dialect) (σ : Setting) (keep : ℕ) → o.clerk ≡ new_clerk o.desk.now.queues (feed_name o.feed) → o.feed.setting ≡ σ → o.feed.keep ≡ keep
-    → generations_of o.feed.feed.log o.feed.feed.docs ≡ [] ∷ [] → Opens HoldsFeed (λ (x : FeedOffice) n. IsAboveEach n x.clerk.put) how o (workers_rules how σ keep o.form)
+    → generations_of o.feed.feed.log o.feed.feed.docs ≡ [] ∷ [] → Opens HoldsFeed (λ (x : FeedOffice). x.clerk.put) how o (workers_rules how σ keep o.form)
 opens_feed o how σ keep clerk setting keeps empty =
     let taken = taken_none o.feed empty in
     record {
@@ -59,7 +57,7 @@ opens_feed o how σ keep clerk setting keeps empty =
       };
       start = refl;
       silent = λ d. refl;
-      is_above = subst (IsAboveEach 1) (sym (ap (λ (k : ClerkBook (List ℕ)). k.put) clerk)) (All-nil _);
+      unasked = ap (λ (k : ClerkBook (List ℕ)). k.put) clerk;
     }
 
 -- ---- what it does
@@ -89,9 +87,6 @@ keeps_same old new same = λ rules docs ws h. subst (λ (o : FeedOffice). HoldsF
 pub places_one : (old new : FeedOffice) (d : Doc) → Keeps old new → docs_of new ≡ docs_of old ++ d ∷ [] → Places HoldsFeed old new d None
 places_one old new d k placed = λ rules docs ws h.
     (sym (ap (λ (r : Rules (Unit {0})). r.refusal docs d) h.by_rules), holds_on old new k rules docs (docs ++ d ∷ []) ws h (placed ∙ ap (λ ds. ds ++ d ∷ []) h.documents))
-
-pub above_same : (old new : FeedOffice) → new.clerk.put ≡ old.clerk.put → (n : ℕ) → IsAboveEach n old.clerk.put → IsAboveEach n new.clerk.put
-above_same old new same n h = subst (IsAboveEach n) (sym same) h
 
 pub settles : (o : FeedOffice) (s : Settled) → (length (docs_of o) < 2 ^ 64 - 1 → s.seen ≤ length (docs_of o))
     → (length (docs_of o) < 2 ^ 64 - 1 → ids_of s.frame ≡ answer (query_of s.frame) (k_of s.frame) (kept o.feed.setting o.feed.keep (take s.seen (docs_of o))))

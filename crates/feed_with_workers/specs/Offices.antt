@@ -1,12 +1,14 @@
 -- A desk with its clerk, beside the writer of its feed.
 use Rattle.eb_fields.specs.Dialect.{Dialect}
-use Rattle.std.specs.Prelude.{◌≡◌, ℕ, List, [], ◌∷◌, Option, Some, None}
+use Rattle.std.specs.Prelude.{◌≡◌, ℕ, List, [], ◌∷◌, Option, Some, None, Contains}
 use Rattle.run_store.specs.Rules.{Rules}
 use Rattle.eb_base.specs.Document.{Doc}
 use Rattle.eb_base.specs.Setting.{Setting}
 use Rattle.eb_desk.specs.Desk.{Queues}
 use Rattle.feed_serve.specs.Desk.{IsOpen, new_clerk}
-use Rattle.feed_serve.specs.Feeds.{feed_name}
+use Rattle.feed_serve.specs.Feeds.{feed_name, IsReaderOf}
+use Rattle.feed_serve.specs.Jobs.{answerer, answer_pair}
+use Rattle.feed_serve.specs.declared.job.Answer.{Answer}
 use Rattle.feed_shared.specs.Turns.{WriterToken, generations_of, history_of, HasTaken}
 use Rattle.feed_with_workers.specs.declared.feed_office.Side.{Side}
 use Rattle.feed_with_workers.specs.declared.feed_office.FeedOffice.{FeedOffice}
@@ -23,6 +25,11 @@ docs_of o = taken_by o.feed
 pub record IsStaffed (o : FeedOffice) : Type 0 where
   pub clerk : IsOpen o.desk.now.queues (feed_name o.feed) o.clerk
   pub taken : HasTaken o.feed (docs_of o)
+
+-- the answer's reader is one of the feed, and the clerk put what it answers
+pub record IsAnswerAt (o : FeedOffice) (a : Answer) : Type 0 where
+  pub made : IsReaderOf (feed_name o.feed) (answerer a)
+  pub put : Contains o.clerk.put (answer_pair a)
 
 -- it holds these documents, and goes by the rules of a feed with workers
 pub record HoldsFeed (o : FeedOffice) (rules : Rules (Unit {0})) (docs : List Doc) (none : Unit {0}) : Type 0 where

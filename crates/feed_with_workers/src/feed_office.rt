@@ -7,7 +7,7 @@ ghost use Rattle.eb_cursor.specs.Frames.{query_of, k_of, ids_of};
 ghost use Rattle.eb_feed.specs.Generations.{kept};
 ghost use Rattle.eb_desk.specs.Desk.{with_put};
 ghost use Rattle.feed_serve.specs.Feeds.{feed_name, IsReaderOf};
-ghost use Rattle.feed_serve.specs.Jobs.{answerer, pair, known_to};
+ghost use Rattle.feed_serve.specs.Jobs.{pair, known_to};
 ghost use Rattle.eb_desk.specs.Rule.{IsAboveEach};
 ghost use Rattle.feed_shared.specs.Turns.{counted, history_of, stretch_of};
 
@@ -103,7 +103,7 @@ fn count_held<G: Gate>(feed: &mut FeedWriter, frame: &mut Frame, tally: &mut Tal
 }
 
 impl FeedOffice<'_> {
-    ghost use Rattle.feed_with_workers.specs.Offices.{docs_of, IsStaffed, Keeps};
+    ghost use Rattle.feed_with_workers.specs.Offices.{docs_of, IsStaffed, IsAnswerAt, Keeps};
 
     // Adds a document after the others. `NoMemory` leaves all as it was.
     fn add<G: Gate>(&mut self, document: &Document, gate: &G) -> Result<(), NoMemory>
@@ -126,8 +126,7 @@ impl FeedOffice<'_> {
         requires above { IsAboveEach number self.old.clerk.put }
         ensures keeps { Keeps self.old self.new }
         ensures feed { self.new.feed ≡ self.old.feed }
-        ensures put { OnOk result (self.new.clerk ≡ with_put self.old.clerk (pair number (counted (docs_of self.old)))) }
-        ensures above { OnOk result (IsAboveEach (number + 1) self.new.clerk.put) }
+        ensures put { OnOk result (self.new.clerk ≡ with_put self.old.clerk (pair number (counted (docs_of self.old)) frame)) }
         ensures err { OnErr result (self.new ≡ self.old) }
     {
         let job = Job::new(number, frame, &mut self.feed)?;
@@ -141,7 +140,7 @@ impl FeedOffice<'_> {
         ensures keeps { Keeps self.old self.new }
         ensures feed { self.new.feed ≡ self.old.feed }
         ensures put { self.new.clerk.put ≡ self.old.clerk.put }
-        ensures made { IsReaderOf (feed_name self.new.feed) (answerer result) }
+        ensures made { IsAnswerAt self.new result }
     {
         self.clerk.wait(rt, self.desk, &(), gate)
     }
@@ -152,7 +151,7 @@ impl FeedOffice<'_> {
         ensures keeps { Keeps self.old self.new }
         ensures feed { self.new.feed ≡ self.old.feed }
         ensures put { self.new.clerk.put ≡ self.old.clerk.put }
-        ensures made { MatchOption result ⊤ (λ a. IsReaderOf (feed_name self.new.feed) (answerer a)) }
+        ensures made { MatchOption result ⊤ (λ a. IsAnswerAt self.new a) }
     {
         self.clerk.take_answer(self.desk)
     }
@@ -220,16 +219,15 @@ impl FeedOffice<'_> {
 }
 
 impl Office for FeedOffice<'_> {
-    ghost use Rattle.feed_with_workers.specs.Offices.{HoldsFeed};
-    ghost use Rattle.run_with_workers.specs.Offices.{above_more};
+    ghost use Rattle.feed_with_workers.specs.Offices.{HoldsFeed, IsAnswerAt};
 
     type Answer = Answer;
 
     ghost holds = { HoldsFeed };
 
-    ghost above = { λ o n. IsAboveEach n o.clerk.put };
+    ghost asked = { λ o. o.clerk.put };
 
-    ghost made = { λ o a. IsReaderOf (feed_name o.feed) (answerer a) };
+    ghost made = { IsAnswerAt };
 
     fn place<G: Gate>(
         &mut self,
@@ -280,6 +278,4 @@ impl Office for FeedOffice<'_> {
     fn close(&mut self) -> Tail {
         Tail::Kept(self.feed.kept())
     }
-
-    ghost rises = { λ o n h. above_more n o.clerk.put h };
 }

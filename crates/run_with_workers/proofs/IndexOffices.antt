@@ -3,7 +3,6 @@ use Rattle.eb_fields.specs.Dialect.{Dialect}
 use Rattle.std.proofs.Common.{◌≡◌, ℕ, ◌+◌, ◌<◌, ◌≤◌, Bool, true, false, List, [], ◌∷◌, ◌++◌, length, take, refl, sym, ap, ap₂, subst, ◌∙◌, arith, append-nil, length-append}
 use Rattle.std.specs.Prelude.{◌^◌, Option, Some, None, if◌then◌else◌}
 use Rattle.std.proofs.Math.Seq.{take-append_seam}
-use Rattle.std.proofs.lemmas.List.Elements.{All-nil}
 use mathlib.Core.List.{IsPrefix}
 use Rattle.run_store.specs.Rules.{Rules}
 use Rattle.run_store.specs.Stores.{IsHolding, Places, Keeps as KeepsAll}
@@ -14,7 +13,6 @@ use Rattle.eb_count.specs.Tallies.{Numbers, HasCounted, AreCounts}
 use Rattle.eb_base.specs.Setting.{Setting}
 use Rattle.eb_cursor.specs.Frames.{query_of, k_of, ids_of}
 use Rattle.eb_desk.specs.Desk.{Queues, ClerkBook}
-use Rattle.eb_desk.specs.Rule.{IsAboveEach}
 use Rattle.eb_engine.specs.Tokens.{HistoryToken}
 use Rattle.run_index.specs.Conversions.{AreConverted, most_converted}
 use Rattle.run_index.specs.IndexRules.{index_rules, segments_tail}
@@ -43,7 +41,7 @@ unfolding cut
 none_closed σ n = record { each = λ s h. absurd (omega (arith, h)) }
 
 pub opens_index : (o : IndexOffice) (how : Dialect) → o.clerk ≡ new_clerk o.desk.now.queues o.index.now → o.writer.index ≡ o.index.now → o.writer.docs ≡ [] → o.converter.index ≡ o.index.now
-    → Opens HoldsIndex (λ (x : IndexOffice) n. IsAboveEach n x.clerk.put) how o (index_rules how o.index.now.setting o.form [])
+    → Opens HoldsIndex (λ (x : IndexOffice). x.clerk.put) how o (index_rules how o.index.now.setting o.form [])
 opens_index o how clerk writer docs converter = record {
   dialect = refl;
   office = record {
@@ -59,7 +57,7 @@ opens_index o how clerk writer docs converter = record {
   };
   start = refl;
   silent = λ d. refl;
-  is_above = subst (IsAboveEach 1) (sym (ap (λ (k : ClerkBook (List ℕ)). k.put) clerk)) (All-nil _);
+  unasked = ap (λ (k : ClerkBook (List ℕ)). k.put) clerk;
 }
 
 pub staffed_of : (o : IndexOffice) → IsHolding HoldsIndex o → IsStaffed o
@@ -91,9 +89,6 @@ pub places_none : (old new : IndexOffice) (d : Doc) → Keeps old new → WithPl
 places_none old new d k p = λ rules docs ws h.
     let room : has_room old.index.now.setting docs d ≡ false = subst (λ ds. has_room old.index.now.setting ds d ≡ false) h.documents p.0 in
     (sym (ap (λ (r : Rules (Unit {0})). r.refusal docs d) h.by_rules ∙ ap refused_by room), holds_on old new k rules docs (docs ++ []) ws h (p.1 ∙ h.documents ∙ sym (append-nil docs)))
-
-pub above_same : (old new : IndexOffice) → new.clerk.put ≡ old.clerk.put → (n : ℕ) → IsAboveEach n old.clerk.put → IsAboveEach n new.clerk.put
-above_same old new same n h = subst (IsAboveEach n) (sym same) h
 
 -- an answer over what is known of the front of a history
 pub settles : (o : IndexOffice) (s : Settled) (known : List Doc) → s.seen ≡ length known → IsPrefix known o.writer.docs → ids_of s.frame ≡ answer (query_of s.frame) (k_of s.frame) known

@@ -5,3 +5,4 @@ pub mod Endings
 pub mod Staffing
 pub mod Tallies
 pub mod IndexOffices
+pub mod Askings

@@ -1,5 +1,5 @@
 -- A desk with its clerk, beside the writer and the converter of its index.
-use Rattle.std.specs.Prelude.{◌≡◌, Bool, true, false, List, [], ◌∷◌, ◌++◌, Option, Some, None}
+use Rattle.std.specs.Prelude.{◌≡◌, Bool, true, false, List, [], ◌∷◌, ◌++◌, Option, Some, None, Contains}
 use Rattle.run_store.specs.Rules.{Rules}
 use Rattle.eb_base.specs.Document.{Doc}
 use Rattle.eb_desk.specs.Desk.{Queues}
@@ -8,6 +8,8 @@ use Rattle.run_index.specs.Conversions.{AreConverted}
 use Rattle.run_index.specs.IndexRules.{index_rules}
 use Rattle.eb_place.specs.Room.{has_room, HasRoom}
 use Rattle.eb_serve.specs.Desk.{IsOpen, new_clerk}
+use Rattle.eb_serve.specs.Jobs.{answerer, answer_pair}
+use Rattle.eb_serve.specs.declared.job.Answer.{Answer}
 use Rattle.eb_table.specs.Known.{Words}
 use Rattle.run_with_workers.specs.declared.index_office.Side.{Side}
 use Rattle.run_with_workers.specs.declared.index_office.IndexOffice.{IndexOffice}
@@ -19,6 +21,11 @@ pub record IsStaffed (o : IndexOffice) : Type 0 where
   pub writer : o.writer.index ≡ o.index.now
   pub converter : o.converter.index ≡ o.index.now
   pub converted : AreConverted o.index.now.setting o.writer.docs o.converter.converted
+
+-- the answer is one over the index, to what the clerk put
+pub record IsAnswerAt (o : IndexOffice) (a : Answer) : Type 0 where
+  pub made : (answerer a).index ≡ o.index.now
+  pub put : Contains o.clerk.put (answer_pair a)
 
 -- it holds these documents, and goes by the rules of an index that held nothing at first
 pub record HoldsIndex (o : IndexOffice) (rules : Rules (Unit {0})) (docs : List Doc) (none : Unit {0}) : Type 0 where

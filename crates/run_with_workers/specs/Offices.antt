@@ -1,14 +1,13 @@
 -- What an office does, by the rules of a store without watches.
-use Rattle.std.specs.Prelude.{◌≡◌, ℕ, ◌+◌, ◌<◌, ◌≤◌, List, [], length, take}
-use Rattle.std.proofs.Common.{arith}
-use Rattle.std.proofs.lemmas.List.Elements.{All-weaker}
-use Rattle.eb_desk.specs.Rule.{IsAboveEach}
+use Rattle.std.specs.Prelude.{◌≡◌, ℕ, ◌≤◌, List, [], ◌∷◌, ◌++◌, length, take, Contains}
+use Rattle.eb_desk.specs.Asks.{asks_of}
 use Rattle.eb_desk.specs.declared.rule.Pair.{Pair}
 use Rattle.run_store.specs.Rules.{Rules}
 use Rattle.eb_base.specs.Document.{Doc}
 use Rattle.eb_base.specs.Match.{answer}
 use Rattle.eb_base.specs.Query.{Tree}
 use Rattle.eb_count.specs.Tallies.{Numbers, AreCounts}
+use Rattle.eb_cursor.specs.declared.frame.Frame.{Frame}
 use Rattle.eb_cursor.specs.Frames.{query_of, k_of, ids_of}
 use Rattle.eb_fields.specs.Dialect.{Dialect}
 use Rattle.run_with_workers.specs.declared.office.Settled.{Settled}
@@ -28,13 +27,17 @@ abbrev pub CountsAll : Rules (Unit {0}) → List Doc → Tree → ℕ → Number
 CountsAll rules docs q seen t = (seen ≡ length docs) × AreCounts q (rules.sees docs) t
 
 -- before the first line: the office holds no document, tells no watch, and was asked nothing
-pub record Opens {O : Type 0} (holds : O → Rules (Unit {0}) → List Doc → Unit {0} → Type 0) (above : O → ℕ → Type 0) (how : Dialect) (o : O) (rules : Rules (Unit {0})) : Type 0 where
+pub record Opens {O : Type 0} (holds : O → Rules (Unit {0}) → List Doc → Unit {0} → Type 0) (asked : O → List Pair) (how : Dialect) (o : O) (rules : Rules (Unit {0})) : Type 0 where
   pub dialect : how ≡ rules.dialect
   pub office : holds o rules [] tt
   pub start : rules.start ≡ []
   pub silent : (d : Doc) → rules.tells tt d ≡ []
-  pub is_above : above o 1
+  pub unasked : asked o ≡ []
 
--- what is above each number of some pairs, and the next number
-pub above_more : (n : ℕ) (ps : List Pair) → IsAboveEach n ps → IsAboveEach (n + 1) ps
-above_more n ps a = All-weaker (λ (q : Pair). q.number < n) (λ q. q.number < n + 1) (λ q h. omega (arith, h)) ps a
+-- a query was asked under this number, with this k, by these pairs
+abbrev pub WasAsked : List Pair → ℕ → Tree → ℕ → Type 0
+WasAsked ps number q k = (told : ℕ) × Contains ps (record { number = number; told = told; asks = asks_of q k })
+
+-- the query of this frame was asked under this number, after these pairs
+abbrev pub Asks : List Pair → List Pair → ℕ → Frame → Type 0
+Asks old new number frame = (told : ℕ) × (new ≡ old ++ record { number = number; told = told; asks = asks_of (query_of frame) (k_of frame) } ∷ [])

@@ -7,6 +7,7 @@ use Rattle.run_store.specs.Text.{body, body_from, IsBody}
 use Rattle.run_store.proofs.Seeing.{told_front}
 use Rattle.run_store.proofs.Texts.{body_append, body_empty}
 use Rattle.eb_base.specs.Document.{Doc}
+use Rattle.eb_desk.specs.declared.rule.Pair.{Pair}
 use Rattle.eb_io.specs.Lines.{Line}
 use Rattle.eb_lines.specs.Programs.{PrintsFront}
 use Rattle.eb_lines.specs.Reading.{Reading}
@@ -16,8 +17,8 @@ use Rattle.run_with_workers.specs.declared.serving.Serving.{Serving}
 use Rattle.run_with_workers.specs.Serving.{HasServed}
 use Rattle.run_with_workers.specs.Bodies.{joined_front, joined_back, joined_body, side, asked_front}
 
-module _ {O A : Type 0} (holds : O → Rules (Unit {0}) → List Doc → Unit {0} → Type 0) (above : O → ℕ → Type 0) (s : Serving O A) (rules : Rules (Unit {0})) (given : List Line) (so_far : List ℕ)
-    (h : HasServed holds above s rules given so_far) where
+module _ {O A : Type 0} (holds : O → Rules (Unit {0}) → List Doc → Unit {0} → Type 0) (asked : O → List Pair) (s : Serving O A) (rules : Rules (Unit {0})) (given : List Line) (so_far : List ℕ)
+    (h : HasServed holds asked s rules given so_far) where
   abbrev pub all_readings : List Reading
   all_readings = h.done ++ h.ahead
 

@@ -7,7 +7,7 @@ ghost use mathlib.Core.List.{IsPrefix};
 ghost use Rattle.eb_place.specs.Room.{cut};
 ghost use Rattle.run_index.specs.Conversions.{most_converted};
 ghost use Rattle.eb_desk.specs.Desk.{with_put};
-ghost use Rattle.eb_serve.specs.Jobs.{answerer, pair};
+ghost use Rattle.eb_serve.specs.Jobs.{pair};
 ghost use Rattle.eb_desk.specs.Rule.{IsAboveEach};
 
 use crate::office::{Office, Settled};
@@ -65,7 +65,7 @@ fn count_with<G: Gate, L: Ledger>(
 }
 
 impl IndexOffice<'_> {
-    ghost use Rattle.run_with_workers.specs.IndexOffices.{IsStaffed, Keeps, WithPlaced};
+    ghost use Rattle.run_with_workers.specs.IndexOffices.{IsStaffed, IsAnswerAt, Keeps, WithPlaced};
 
     // Adds a document after the others, and converts the segment that it closed. False exactly where there is no room for
     // it. Takes no memory.
@@ -91,8 +91,7 @@ impl IndexOffice<'_> {
         requires above { IsAboveEach number self.old.clerk.put }
         ensures keeps { Keeps self.old self.new }
         ensures writer { self.new.writer ≡ self.old.writer }
-        ensures put { self.new.clerk ≡ with_put self.old.clerk (pair number (length self.old.writer.docs)) }
-        ensures above { IsAboveEach (number + 1) self.new.clerk.put }
+        ensures put { self.new.clerk ≡ with_put self.old.clerk (pair number (length self.old.writer.docs) frame) }
     {
         let reader = self.writer.reader(self.index);
         self.clerk
@@ -105,7 +104,7 @@ impl IndexOffice<'_> {
         ensures keeps { Keeps self.old self.new }
         ensures writer { self.new.writer ≡ self.old.writer }
         ensures put { self.new.clerk.put ≡ self.old.clerk.put }
-        ensures made { (answerer result).index ≡ self.new.index.now }
+        ensures made { IsAnswerAt self.new result }
     {
         self.clerk.wait(rt, self.desk, self.index, gate)
     }
@@ -116,7 +115,7 @@ impl IndexOffice<'_> {
         ensures keeps { Keeps self.old self.new }
         ensures writer { self.new.writer ≡ self.old.writer }
         ensures put { self.new.clerk.put ≡ self.old.clerk.put }
-        ensures made { MatchOption result ⊤ (λ a. (answerer a).index ≡ self.new.index.now) }
+        ensures made { MatchOption result ⊤ (λ a. IsAnswerAt self.new a) }
     {
         self.clerk.take_answer(self.desk)
     }
@@ -178,16 +177,15 @@ impl IndexOffice<'_> {
 
 impl Office for IndexOffice<'_> {
     ghost use Rattle.std.specs.Prelude.{ℕ};
-    ghost use Rattle.run_with_workers.specs.IndexOffices.{HoldsIndex};
-    ghost use Rattle.run_with_workers.specs.Offices.{above_more};
+    ghost use Rattle.run_with_workers.specs.IndexOffices.{HoldsIndex, IsAnswerAt};
 
     type Answer = Answer;
 
     ghost holds = { HoldsIndex };
 
-    ghost above = { λ o n. IsAboveEach n o.clerk.put };
+    ghost asked = { λ o. o.clerk.put };
 
-    ghost made = { λ o a. (answerer a).index ≡ o.index.now };
+    ghost made = { IsAnswerAt };
 
     fn place<G: Gate>(
         &mut self,
@@ -243,6 +241,4 @@ impl Office for IndexOffice<'_> {
         let segments = self.convert_all();
         tell_segments(self.form, segments)
     }
-
-    ghost rises = { λ o n h. above_more n o.clerk.put h };
 }

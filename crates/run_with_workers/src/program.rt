@@ -28,7 +28,7 @@ impl<R: Wait, G: Gate, O: Office> LineProgram for WorkersProgram<'_, R, G, O> {
 
     ghost Asked = { Rules (Unit {0}) };
 
-    ghost has_run = { λ p. HasServed O.holds O.above p.serving };
+    ghost has_run = { λ p. HasServed O.holds O.asked p.serving };
 
     ghost prints = { IsBody is_bad at_least };
 
@@ -63,7 +63,7 @@ impl<R: Wait, G: Gate, O: Office> LineProgram for WorkersProgram<'_, R, G, O> {
         self.serving.finish(text)
     }
 
-    ghost printed_first = { λ p. served_first O.holds O.above p.serving };
+    ghost printed_first = { λ p. served_first O.holds O.asked p.serving };
 
     ghost whole = { body_first is_bad at_least };
 

@@ -30,8 +30,8 @@ pub fn serve_lines<O: Office, R: Wait, S: Source, K: Sink, G: Gate>(
     out: &mut K,
     gate: &G,
 ) -> (Status, O)
-    requires { (rules : Rules (Unit {0})) × Opens O.holds O.above (dialect_of dialect) office rules }
-    ensures ends { (rules : Rules (Unit {0})) → Opens O.holds O.above (dialect_of dialect.entry) office rules
+    requires { (rules : Rules (Unit {0})) × Opens O.holds O.asked (dialect_of dialect) office rules }
+    ensures ends { (rules : Rules (Unit {0})) → Opens O.holds O.asked (dialect_of dialect.entry) office rules
         → EndsOf is_bad at_least rules result.0 (S.left source.old) (S.left source.new) (K.taken out.old) (K.taken out.new) }
     ensures read_fault { result.0 ≡ Status.ReadFault → HasRisen (S.faults source.old) (S.faults source.new) }
     ensures write_fault { result.0 ≡ Status.WriteFault → HasRisen (K.faults out.old) (K.faults out.new) }

@@ -13,7 +13,7 @@ ghost use Rattle.eb_lines.specs.Kinds.{document_line, query_line, kind_of};
 ghost use Rattle.eb_lines.specs.Programs.{IsRunning, WorksOn, WorksOnGiven, Finishes};
 ghost use Rattle.eb_lines.specs.Reading.{blank, document as reads_document, query as reads_query, refused as is_refused};
 ghost use Rattle.run_store.specs.Questions.{MayAsk};
-ghost use Rattle.run_with_workers.specs.Waiting.{AwaitsAt, IsKept, NextNeeds};
+ghost use Rattle.run_with_workers.specs.Waiting.{AwaitsAt, IsPlace, IsKept, NextNeeds};
 ghost use Rattle.run_with_workers.specs.Serving.{HasServed, TakesLine, TakesRead, IsFurther};
 
 use crate::office::{Office, Settled};
@@ -69,7 +69,7 @@ impl<'a, O: Office> Serving<'a, O> {
 
     // Where the line of this number waits.
     fn place_of(&self, number: u64) -> Option<usize>
-        ensures { IfSome result (λ at. at < deque_len self.now.waiting) }
+        ensures { IfSome result (λ at. (at < deque_len self.now.waiting) × IsPlace self.now.number self.now.waiting.items number at) }
     {
         let printed = self.number.saturating_sub(self.waiting.len() as u64);
         let at = number.checked_sub(printed)?.checked_sub(1)?;
@@ -80,29 +80,28 @@ impl<'a, O: Office> Serving<'a, O> {
         }
     }
 
-    // Whether the line that waits there is a query that is answered by this frame, over that number of documents.
-    fn awaits(&self, at: usize, frame: &Frame, seen: u64) -> bool
-        ensures { IsTrue result → AwaitsAt self.now.waiting.items at frame.now seen }
+    // Whether the line that waits there is a query without an answer, and one over that number of documents will do.
+    fn awaits(&self, at: usize, seen: u64) -> bool
+        ensures { IsTrue result → AwaitsAt self.now.waiting.items at seen }
     {
         match self.waiting.get(at) {
             None => false,
-            Some(line) => line.awaits(frame, seen),
+            Some(line) => line.awaits(seen),
         }
     }
 
-    // Lets the line that awaits an answer, if one does, wait with it: it has the query, and saw what it knew. Any other answer
-    // is dropped.
+    // Lets the line of an answer's number, if it awaits one, wait with it. Any other answer is dropped.
     fn keep(&mut self, settled: Settled)
         ensures office { self.new.office ≡ self.old.office }
         ensures dialect { dialect_of self.new.dialect ≡ dialect_of self.old.dialect }
         ensures counts { (self.new.number ≡ self.old.number) × (self.new.queries ≡ self.old.queries) × (self.new.refused ≡ self.old.refused) }
-        ensures kept { IsKept self.old.waiting.items self.new.waiting.items settled }
+        ensures kept { IsKept self.old.number self.old.waiting.items self.new.waiting.items settled }
     {
         let Some(at) = self.place_of(settled.number) else {
             return;
         };
         let Settled { seen, frame, .. } = settled;
-        if !self.awaits(at, &frame, seen) {
+        if !self.awaits(at, seen) {
             return;
         }
         replace(&mut self.waiting, at, Waiting::Answered { seen, frame });
@@ -111,9 +110,9 @@ impl<'a, O: Office> Serving<'a, O> {
 
     // Takes an answer in, when it is settled.
     fn take_in<G: Gate>(&mut self, answer: O::Answer, gate: &G)
-        requires running { IsRunning (HasServed O.holds O.above) self.old }
+        requires running { IsRunning (HasServed O.holds O.asked) self.old }
         requires made { O.made self.old.office answer }
-        ensures { IsFurther O.holds O.above self.old self.new }
+        ensures { IsFurther O.holds O.asked self.old self.new }
     {
         let settled = self.office.settle(answer, gate);
         self.keep(settled);
@@ -121,8 +120,8 @@ impl<'a, O: Office> Serving<'a, O> {
 
     // Takes in the answer that is there, and says whether one was.
     fn take_there<G: Gate>(&mut self, gate: &G) -> bool
-        requires running { IsRunning (HasServed O.holds O.above) self.old }
-        ensures { IsFurther O.holds O.above self.old self.new }
+        requires running { IsRunning (HasServed O.holds O.asked) self.old }
+        ensures { IsFurther O.holds O.asked self.old self.new }
     {
         match self.office.take() {
             None => false,
@@ -135,8 +134,8 @@ impl<'a, O: Office> Serving<'a, O> {
 
     // Takes in all answers that are there, without waiting.
     fn take_all_there<G: Gate>(&mut self, gate: &G)
-        requires running { IsRunning (HasServed O.holds O.above) self.old }
-        ensures { IsFurther O.holds O.above self.old self.new }
+        requires running { IsRunning (HasServed O.holds O.asked) self.old }
+        ensures { IsFurther O.holds O.asked self.old self.new }
     {
         for _ in 0..self.unanswered {
             if !self.take_there(gate) {
@@ -147,8 +146,8 @@ impl<'a, O: Office> Serving<'a, O> {
 
     // Waits for an answer, and takes it in.
     fn wait<R: Wait, G: Gate>(&mut self, rt: &R, gate: &G)
-        requires running { IsRunning (HasServed O.holds O.above) self.old }
-        ensures { IsFurther O.holds O.above self.old self.new }
+        requires running { IsRunning (HasServed O.holds O.asked) self.old }
+        ensures { IsFurther O.holds O.asked self.old self.new }
     {
         let answer = self.office.wait(rt, gate);
         self.take_in(answer, gate);
@@ -169,8 +168,8 @@ impl<'a, O: Office> Serving<'a, O> {
     // Puts what the next line prints after the text, where it is known, and says whether it was. Where memory doesn't
     // suffice, nothing is done.
     fn print_next(&mut self, text: &mut Vec<u8>) -> Result<bool, NoMemory>
-        requires running { IsRunning (HasServed O.holds O.above) self.old }
-        ensures on { WorksOn (HasServed O.holds O.above) self.old self.new text.old.items text.new.items }
+        requires running { IsRunning (HasServed O.holds O.asked) self.old }
+        ensures on { WorksOn (HasServed O.holds O.asked) self.old self.new text.old.items text.new.items }
         ensures fewer { IfOk result (λ printed. IsTrue printed → deque_len self.new.waiting + 1 ≡ deque_len self.old.waiting) }
     {
         let form = self.office.form();
@@ -188,8 +187,8 @@ impl<'a, O: Office> Serving<'a, O> {
 
     // Puts what the next lines print after the text, as far as it is known.
     fn print_ready(&mut self, text: &mut Vec<u8>) -> Result<(), NoMemory>
-        requires running { IsRunning (HasServed O.holds O.above) self.old }
-        ensures on { WorksOn (HasServed O.holds O.above) self.old self.new text.old.items text.new.items }
+        requires running { IsRunning (HasServed O.holds O.asked) self.old }
+        ensures on { WorksOn (HasServed O.holds O.asked) self.old self.new text.old.items text.new.items }
     {
         'ready: while self.print_next(text)? {}
         Ok(())
@@ -197,8 +196,8 @@ impl<'a, O: Office> Serving<'a, O> {
 
     // Takes in the answers that are there, and prints the lines that are ready. Doesn't wait.
     fn print_there<G: Gate>(&mut self, gate: &G, text: &mut Vec<u8>) -> Result<(), NoMemory>
-        requires running { IsRunning (HasServed O.holds O.above) self.old }
-        ensures { WorksOn (HasServed O.holds O.above) self.old self.new text.old.items text.new.items }
+        requires running { IsRunning (HasServed O.holds O.asked) self.old }
+        ensures { WorksOn (HasServed O.holds O.asked) self.old self.new text.old.items text.new.items }
     {
         self.take_all_there(gate);
         self.print_ready(text)
@@ -213,8 +212,8 @@ impl<'a, O: Office> Serving<'a, O> {
         unprinted: usize,
         text: &mut Vec<u8>,
     ) -> Result<(), NoMemory>
-        requires running { IsRunning (HasServed O.holds O.above) self.old }
-        ensures on { WorksOn (HasServed O.holds O.above) self.old self.new text.old.items text.new.items }
+        requires running { IsRunning (HasServed O.holds O.asked) self.old }
+        ensures on { WorksOn (HasServed O.holds O.asked) self.old self.new text.old.items text.new.items }
         ensures few { OnOk result (deque_len self.new.waiting ≤ unprinted) }
     {
         for _ in rt.forever() {
@@ -235,8 +234,8 @@ impl<'a, O: Office> Serving<'a, O> {
         gate: &G,
         text: &mut Vec<u8>,
     ) -> Result<(), NoMemory>
-        requires running { IsRunning (HasServed O.holds O.above) self.old }
-        ensures on { WorksOn (HasServed O.holds O.above) self.old self.new text.old.items text.new.items }
+        requires running { IsRunning (HasServed O.holds O.asked) self.old }
+        ensures on { WorksOn (HasServed O.holds O.asked) self.old self.new text.old.items text.new.items }
         ensures room { OnOk result (deque_len self.new.waiting + 1 ≤ deque_capacity self.new.waiting) }
     {
         self.print_there(gate, text)?;
@@ -247,10 +246,10 @@ impl<'a, O: Office> Serving<'a, O> {
 
     // Passes over a blank line.
     fn pass(&mut self)
-        requires running { IsRunning (HasServed O.holds O.above) self.old }
+        requires running { IsRunning (HasServed O.holds O.asked) self.old }
         requires number { self.old.number ≤ 2 ^ 40 }
         requires room { deque_len self.old.waiting + 1 ≤ deque_capacity self.old.waiting }
-        ensures { TakesLine O.holds O.above self.old self.new blank }
+        ensures { TakesLine O.holds O.asked self.old self.new blank }
     {
         self.number += 1;
         push(&mut self.waiting, Waiting::Nothing);
@@ -258,10 +257,10 @@ impl<'a, O: Office> Serving<'a, O> {
 
     // Adds a document, or refuses its line. Where memory doesn't suffice, nothing is done.
     fn add<G: Gate>(&mut self, document: &Document, gate: &G) -> Result<(), NoMemory>
-        requires running { IsRunning (HasServed O.holds O.above) self.old }
+        requires running { IsRunning (HasServed O.holds O.asked) self.old }
         requires number { self.old.number ≤ 2 ^ 40 }
         requires room { deque_len self.old.waiting + 1 ≤ deque_capacity self.old.waiting }
-        ensures ok { OnOk result (TakesLine O.holds O.above self.old self.new (reads_document document.now)) }
+        ensures ok { OnOk result (TakesLine O.holds O.asked self.old self.new (reads_document document.now)) }
         ensures err { OnErr result (self.new ≡ self.old) }
     {
         match self.office.place(document, gate)? {
@@ -280,10 +279,10 @@ impl<'a, O: Office> Serving<'a, O> {
 
     // Refuses a line.
     fn refuse(&mut self, refusal: Refusal)
-        requires running { IsRunning (HasServed O.holds O.above) self.old }
+        requires running { IsRunning (HasServed O.holds O.asked) self.old }
         requires number { self.old.number ≤ 2 ^ 40 }
         requires room { deque_len self.old.waiting + 1 ≤ deque_capacity self.old.waiting }
-        ensures { TakesLine O.holds O.above self.old self.new (is_refused refusal) }
+        ensures { TakesLine O.holds O.asked self.old self.new (is_refused refusal) }
     {
         self.number += 1;
         self.refused += 1;
@@ -292,28 +291,20 @@ impl<'a, O: Office> Serving<'a, O> {
 
     // Asks for the newest `k` matches of a query. Where memory doesn't suffice, nothing is done.
     fn ask<R: Wait>(&mut self, rt: &R, alloc: Global, k: u32, query: Query) -> Result<(), NoMemory>
-        requires running { IsRunning (HasServed O.holds O.above) self.old }
+        requires running { IsRunning (HasServed O.holds O.asked) self.old }
         requires number { self.old.number ≤ 2 ^ 40 }
         requires room { deque_len self.old.waiting + 1 ≤ deque_capacity self.old.waiting }
         requires asked { MayAsk (Newest k) query }
-        ensures ok { OnOk result (TakesLine O.holds O.above self.old self.new (reads_query (Newest k) (tree query))) }
+        ensures ok { OnOk result (TakesLine O.holds O.asked self.old self.new (reads_query (Newest k) (tree query))) }
         ensures err { OnErr result (self.new ≡ self.old) }
     {
         let told = self.office.documents();
-        let kept = query.copy(alloc)?;
         let frame = Frame::new(alloc, query, k)?;
         self.office.ask(rt, self.number + 1, frame)?;
         self.number += 1;
         self.queries += 1;
         self.unanswered = self.unanswered.saturating_add(1);
-        push(
-            &mut self.waiting,
-            Waiting::Asked {
-                told,
-                k,
-                query: kept,
-            },
-        );
+        push(&mut self.waiting, Waiting::Asked { told });
         Ok(())
     }
 
@@ -328,11 +319,11 @@ impl<'a, O: Office> Serving<'a, O> {
         query: Query,
         gate: &G,
     ) -> Result<(), NoMemory>
-        requires running { IsRunning (HasServed O.holds O.above) self.old }
+        requires running { IsRunning (HasServed O.holds O.asked) self.old }
         requires number { self.old.number ≤ 2 ^ 40 }
         requires room { deque_len self.old.waiting + 1 ≤ deque_capacity self.old.waiting }
         requires asked { MayAsk (Counts start width buckets) query }
-        ensures ok { OnOk result (TakesLine O.holds O.above self.old self.new (reads_query (Counts start width buckets) (tree query))) }
+        ensures ok { OnOk result (TakesLine O.holds O.asked self.old self.new (reads_query (Counts start width buckets) (tree query))) }
         ensures err { OnErr result (self.new ≡ self.old) }
     {
         let mut tally = Tally::with_buckets(alloc, start, width, buckets as usize)?;
@@ -354,11 +345,11 @@ impl<'a, O: Office> Serving<'a, O> {
         query: Query,
         gate: &G,
     ) -> Result<(), NoMemory>
-        requires running { IsRunning (HasServed O.holds O.above) self.old }
+        requires running { IsRunning (HasServed O.holds O.asked) self.old }
         requires number { self.old.number ≤ 2 ^ 40 }
         requires room { deque_len self.old.waiting + 1 ≤ deque_capacity self.old.waiting }
         requires asked { MayAsk ask query }
-        ensures ok { OnOk result (TakesLine O.holds O.above self.old self.new (reads_query ask (tree query))) }
+        ensures ok { OnOk result (TakesLine O.holds O.asked self.old self.new (reads_query ask (tree query))) }
         ensures err { OnErr result (self.new ≡ self.old) }
     {
         match ask {
@@ -378,10 +369,10 @@ impl<'a, O: Office> Serving<'a, O> {
         bytes: &[u8],
         gate: &G,
     ) -> Result<(), NoMemory>
-        requires running { IsRunning (HasServed O.holds O.above) self.old }
+        requires running { IsRunning (HasServed O.holds O.asked) self.old }
         requires number { self.old.number ≤ 2 ^ 40 }
         requires room { deque_len self.old.waiting + 1 ≤ deque_capacity self.old.waiting }
-        ensures ok { OnOk result (TakesRead O.holds O.above self.old self.new document_line bytes.now) }
+        ensures ok { OnOk result (TakesRead O.holds O.asked self.old self.new document_line bytes.now) }
         ensures err { OnErr result (self.new ≡ self.old) }
     {
         match read_document_line(alloc, self.dialect, bytes)? {
@@ -401,11 +392,11 @@ impl<'a, O: Office> Serving<'a, O> {
         text: &str,
         gate: &G,
     ) -> Result<(), NoMemory>
-        requires running { IsRunning (HasServed O.holds O.above) self.old }
+        requires running { IsRunning (HasServed O.holds O.asked) self.old }
         requires number { self.old.number ≤ 2 ^ 40 }
         requires room { deque_len self.old.waiting + 1 ≤ deque_capacity self.old.waiting }
         requires mark { begins_query (dialect_of self.old.dialect) text.now ≡ true }
-        ensures ok { OnOk result (TakesRead O.holds O.above self.old self.new query_line text.now) }
+        ensures ok { OnOk result (TakesRead O.holds O.asked self.old self.new query_line text.now) }
         ensures err { OnErr result (self.new ≡ self.old) }
     {
         match read_question(alloc, self.dialect, text)? {
@@ -425,10 +416,10 @@ impl<'a, O: Office> Serving<'a, O> {
         bytes: &[u8],
         gate: &G,
     ) -> Result<(), NoMemory>
-        requires running { IsRunning (HasServed O.holds O.above) self.old }
+        requires running { IsRunning (HasServed O.holds O.asked) self.old }
         requires number { self.old.number ≤ 2 ^ 40 }
         requires room { deque_len self.old.waiting + 1 ≤ deque_capacity self.old.waiting }
-        ensures ok { OnOk result (TakesRead O.holds O.above self.old self.new (kind_of (dialect_of self.old.dialect) bytes.now) bytes.now) }
+        ensures ok { OnOk result (TakesRead O.holds O.asked self.old self.new (kind_of (dialect_of self.old.dialect) bytes.now) bytes.now) }
         ensures err { OnErr result (self.new ≡ self.old) }
     {
         match line_kind(self.dialect, bytes) {
@@ -456,10 +447,10 @@ impl<'a, O: Office> Serving<'a, O> {
         gate: &G,
         text: &mut Vec<u8>,
     ) -> Result<(), NoMemory>
-        requires running { IsRunning (HasServed O.holds O.above) self.old }
+        requires running { IsRunning (HasServed O.holds O.asked) self.old }
         requires number { self.old.number ≤ 2 ^ 40 }
-        ensures ok { OnOk result (WorksOnGiven (HasServed O.holds O.above) self.old self.new text.old.items text.new.items (line bytes.now)) }
-        ensures err { OnErr result (WorksOn (HasServed O.holds O.above) self.old self.new text.old.items text.new.items) }
+        ensures ok { OnOk result (WorksOnGiven (HasServed O.holds O.asked) self.old self.new text.old.items text.new.items (line bytes.now)) }
+        ensures err { OnErr result (WorksOn (HasServed O.holds O.asked) self.old self.new text.old.items text.new.items) }
     {
         self.make_room(rt, gate, text)?;
         self.take_bytes(rt, alloc, bytes, gate)
@@ -472,10 +463,10 @@ impl<'a, O: Office> Serving<'a, O> {
         gate: &G,
         text: &mut Vec<u8>,
     ) -> Result<(), NoMemory>
-        requires running { IsRunning (HasServed O.holds O.above) self.old }
+        requires running { IsRunning (HasServed O.holds O.asked) self.old }
         requires number { self.old.number ≤ 2 ^ 40 }
-        ensures ok { OnOk result (WorksOnGiven (HasServed O.holds O.above) self.old self.new text.old.items text.new.items long_line) }
-        ensures err { OnErr result (WorksOn (HasServed O.holds O.above) self.old self.new text.old.items text.new.items) }
+        ensures ok { OnOk result (WorksOnGiven (HasServed O.holds O.asked) self.old self.new text.old.items text.new.items long_line) }
+        ensures err { OnErr result (WorksOn (HasServed O.holds O.asked) self.old self.new text.old.items text.new.items) }
     {
         self.make_room(rt, gate, text)?;
         self.refuse(Refusal::LongLine);
@@ -489,8 +480,8 @@ impl<'a, O: Office> Serving<'a, O> {
         gate: &G,
         text: &mut Vec<u8>,
     ) -> Result<(), NoMemory>
-        requires running { IsRunning (HasServed O.holds O.above) self.old }
-        ensures on { WorksOn (HasServed O.holds O.above) self.old self.new text.old.items text.new.items }
+        requires running { IsRunning (HasServed O.holds O.asked) self.old }
+        ensures on { WorksOn (HasServed O.holds O.asked) self.old self.new text.old.items text.new.items }
         ensures all { OnOk result (self.new.waiting.items ≡ []) }
     {
         self.wait_down(rt, gate, 0, 0, text)
@@ -499,11 +490,11 @@ impl<'a, O: Office> Serving<'a, O> {
     // Puts the end of the input after the text, where no line waits, and gives how many lines are refused. Where memory
     // doesn't suffice, the text is as before.
     pub(crate) fn finish(&mut self, text: &mut Vec<u8>) -> Result<u64, NoMemory>
-        requires running { IsRunning (HasServed O.holds O.above) self.old }
+        requires running { IsRunning (HasServed O.holds O.asked) self.old }
         requires settled { self.old.waiting.items ≡ [] }
         ensures ok { IfOk result (λ refused. (rules : Rules (Unit {0})) (given : List Line) (so_far : List ℕ)
-            → HasServed O.holds O.above self.old rules given so_far
-            → Finishes (HasServed O.holds O.above) (IsText is_bad at_least) (HasRefusal is_bad) (HasNoRefusal is_bad)
+            → HasServed O.holds O.asked self.old rules given so_far
+            → Finishes (HasServed O.holds O.asked) (IsText is_bad at_least) (HasRefusal is_bad) (HasNoRefusal is_bad)
             self.old text.old.items text.new.items refused rules given so_far) }
         ensures err { OnErr result (text.new.items ≡ text.old.items) }
     {

@@ -3,7 +3,6 @@ ghost use Rattle.std.specs.Prelude.{◌≡◌, ◌+◌, ◌<◌, ◌≤◌, ◌+
 ghost use Rattle.eb_query.specs.Head.{most_buckets};
 ghost use Rattle.std.specs.VecDeque.{deque_len, deque_capacity};
 
-use eb_base::Query;
 use eb_count::Tally;
 use eb_cursor::Frame;
 use eb_lines::{Form, Refusal, line_room, put_answer, put_count, put_refusal};
@@ -16,8 +15,9 @@ pub(crate) enum Waiting {
     Nothing,
     // It is refused.
     Refused(Refusal),
-    // A query, which isn't answered yet: before its line this many documents were accepted.
-    Asked { told: u64, k: u32, query: Query },
+    // A query that the office was asked, under the number of its line, and that isn't answered yet: before its line this many
+    // documents were accepted.
+    Asked { told: u64 },
     // An answer, over the first documents, this many.
     Answered { seen: u64, frame: Frame },
     // Counts.
@@ -58,16 +58,14 @@ impl Waiting {
         }
     }
 
-    // Whether it is a query that is answered by this frame, over this many documents.
-    pub(crate) fn awaits(&self, frame: &Frame, seen: u64) -> bool
-        ensures { IsTrue result ↔ Awaits self.now frame.now seen }
+    // Whether it is a query without an answer, and one over this many documents is over all that were accepted before its line.
+    pub(crate) fn awaits(&self, seen: u64) -> bool
+        ensures { IsTrue result ↔ Awaits self.now seen }
     {
         match self {
             Waiting::Nothing => false,
             Waiting::Refused(_) => false,
-            Waiting::Asked { told, k, query } => {
-                *told <= seen && *k == frame.k() && query.is(frame.query())
-            }
+            Waiting::Asked { told } => *told <= seen,
             Waiting::Answered { .. } => false,
             Waiting::Counted(_) => false,
         }

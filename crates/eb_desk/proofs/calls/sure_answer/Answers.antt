@@ -1,5 +1,6 @@
+use Rattle.eb_desk.specs.Rule.{IsGiven}
 use Rattle.eb_desk.proofs.AnswersKept.{takes_answer}
 use Rattle.eb_desk.proofs.calls.sure_answer.Goals as goal
 
 pub pop_as-requires-clause-rule : goal.pop_as-requires-clause-rule
-pop_as-requires-clause-rule g c = let r = c.requires.rule in (takes_answer g.J.Job.answer_pair g.J.Job.answer_made _ _ r.0 r.1 r.2 r.3, λ items views h e. tt)
+pop_as-requires-clause-rule g c = let r = c.requires.rule in (takes_answer g.J.Job.answer_pair (IsGiven g.J.Job.answer_made) _ _ r.0 r.1 r.2 r.3, λ items views h e. tt)

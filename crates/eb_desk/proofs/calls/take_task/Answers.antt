@@ -1,5 +1,6 @@
+use Rattle.eb_desk.specs.Rule.{asked_pair, IsAsked}
 use Rattle.eb_desk.proofs.JobsKept.{takes_task}
 use Rattle.eb_desk.proofs.calls.take_task.Goals as goal
 
 pub try_pop_as-requires-clause-rule : goal.try_pop_as-requires-clause-rule
-try_pop_as-requires-clause-rule g c = let r = c.requires.rule in takes_task g.J.Job.pair g.J.Job.made _ _ r.0 r.1 r.2
+try_pop_as-requires-clause-rule g c = let r = c.requires.rule in takes_task (asked_pair g.J.Job.pair) (IsAsked g.J.Job.pair g.J.Job.made) _ _ r.0 r.1 r.2

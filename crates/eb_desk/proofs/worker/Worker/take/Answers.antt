@@ -1,11 +1,13 @@
-use Rattle.std.proofs.Common.{[]}
+use Rattle.eb_desk.specs.Rule.{asked_pair, IsAsked, IsGiven}
 use Rattle.eb_desk.proofs.Books.{worker_took, worker_takes}
 use Rattle.eb_desk.proofs.worker.Worker.take.Goals as goal
 
 pub invariant_of-self : goal.invariant_of-self
-invariant_of-self g c = worker_took [] g.J.Job.pair g.J.Job.answer_pair g.J.Job.made g.J.Job.answer_made _ _ _ _ c.self.invariant c.take_task.ensures.pass.2 c.take_task.ensures.moved
+invariant_of-self g c =
+    worker_took (asked_pair g.J.Job.pair) g.J.Job.answer_pair (IsAsked g.J.Job.pair g.J.Job.made) (IsGiven g.J.Job.answer_made)
+    _ _ _ _ c.self.invariant c.take_task.ensures.pass.2 c.take_task.ensures.moved
 
 pub returns : goal.returns
 returns g c =
-    worker_takes [] g.J.Job.pair g.J.Job.answer_pair g.J.Job.made g.J.Job.answer_made
+    worker_takes (asked_pair g.J.Job.pair) g.J.Job.answer_pair (IsAsked g.J.Job.pair g.J.Job.made) (IsGiven g.J.Job.answer_made)
     c.take_task.result c.self.inside.jobs c.take_task.new.pass c.self.inside.answers _ c.self.view_is c.self.invariant c.take_task.ensures.pass.0 c.take_task.ensures.moved

@@ -1,6 +1,5 @@
-use Rattle.std.proofs.Common.{sym, subst}
+use Rattle.std.proofs.Common.{ap, sym}
 use Rattle.eb_cursor.specs.Frames.{query_of}
-use Rattle.eb_desk.specs.Rule.{IsAboveEach}
 use Rattle.feed_shared.specs.Turns.{stretch_of}
 use Rattle.run_with_workers.proofs.Tallies.{has_buckets}
 use Rattle.feed_with_workers.specs.declared.feed_office.FeedOffice.{FeedOffice}
@@ -10,8 +9,8 @@ use Rattle.feed_with_workers.proofs.feed_office.FeedOfficeOffice.count.Goals as 
 pub returns-clause-keeps : goal.returns-clause-keeps
 returns-clause-keeps g c = keeps_same c.args.self.now _ c.count_kept.ensures.same
 
-pub returns-clause-rises : goal.returns-clause-rises
-returns-clause-rises g c = λ n h. subst (λ (o : FeedOffice). IsAboveEach n o.clerk.put) (sym c.count_kept.ensures.same) h
+pub returns-clause-same : goal.returns-clause-same
+returns-clause-same g c = ap (λ (o : FeedOffice). o.clerk.put) c.count_kept.ensures.same
 
 pub returns-clause-buckets : goal.returns-clause-buckets
 returns-clause-buckets g c =

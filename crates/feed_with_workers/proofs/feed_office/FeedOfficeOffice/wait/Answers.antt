@@ -1,4 +1,4 @@
-use Rattle.feed_with_workers.proofs.FeedOffices.{staffed_of, keeps_all, above_same}
+use Rattle.feed_with_workers.proofs.FeedOffices.{staffed_of, keeps_all}
 use Rattle.feed_with_workers.proofs.feed_office.FeedOfficeOffice.wait.Goals as goal
 
 pub wait_for-requires : goal.wait_for-requires
@@ -7,5 +7,5 @@ wait_for-requires g c = record { staffed = staffed_of c.args.self.now c.requires
 pub returns-clause-keeps : goal.returns-clause-keeps
 returns-clause-keeps g c = keeps_all c.args.self.now c.wait_for.new.self c.wait_for.ensures.keeps c.wait_for.ensures.feed
 
-pub returns-clause-rises : goal.returns-clause-rises
-returns-clause-rises g c = above_same c.args.self.now c.wait_for.new.self c.wait_for.ensures.put
+pub returns-clause-same : goal.returns-clause-same
+returns-clause-same g c = c.wait_for.ensures.put

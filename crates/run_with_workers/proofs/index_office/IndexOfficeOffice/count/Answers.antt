@@ -1,7 +1,7 @@
 use Rattle.std.proofs.Common.{ℕ, List, ap}
 use Rattle.eb_cursor.specs.Frames.{query_of}
 use Rattle.eb_desk.specs.Desk.{ClerkBook}
-use Rattle.run_with_workers.proofs.IndexOffices.{staffed_of, keeps_all, above_same, counts_all}
+use Rattle.run_with_workers.proofs.IndexOffices.{staffed_of, keeps_all, counts_all}
 use Rattle.run_with_workers.proofs.Tallies.{has_buckets}
 use Rattle.run_with_workers.proofs.index_office.IndexOfficeOffice.count.Goals as goal
 
@@ -11,8 +11,8 @@ count_all-requires g c = record { staffed = staffed_of c.args.self.now c.require
 pub returns-clause-keeps : goal.returns-clause-keeps
 returns-clause-keeps g c = keeps_all c.args.self.now c.count_all.new.self c.count_all.ensures.keeps c.count_all.ensures.writer
 
-pub returns-clause-rises : goal.returns-clause-rises
-returns-clause-rises g c = above_same c.args.self.now c.count_all.new.self (ap (λ (k : ClerkBook (List ℕ)). k.put) c.count_all.ensures.clerk)
+pub returns-clause-same : goal.returns-clause-same
+returns-clause-same g c = (ap (λ (k : ClerkBook (List ℕ)). k.put) c.count_all.ensures.clerk)
 
 pub returns-clause-buckets : goal.returns-clause-buckets
 returns-clause-buckets g c =

@@ -4,4 +4,4 @@ use Rattle.run_with_workers.proofs.program.WorkersProgramLineProgram.finish.Goal
 
 pub returns-clause-ok : goal.returns-clause-ok
 returns-clause-ok g c =
-    finishes_within (HasServed g.O.Office.holds g.O.Office.above) (λ p. p.serving) c.args.self.now _ _ _ c.args.text.now.items c.finish.new.text.items c.finish.result c.finish.ensures.ok
+    finishes_within (HasServed g.O.Office.holds g.O.Office.asked) (λ p. p.serving) c.args.self.now _ _ _ c.args.text.now.items c.finish.new.text.items c.finish.result c.finish.ensures.ok

@@ -8,8 +8,8 @@ use Rattle.run_with_workers.proofs.serving.Serving.answer.Goals as goal
 
 pub returns-in-Newest-clause-ok : goal.returns-in-Newest-clause-ok
 returns-in-Newest-clause-ok g c =
-    subst (λ (a : Ask). OnOk c.ask.result (TakesLine g.O.Office.holds g.O.Office.above c.args.self.now c.ask.new.self (query a (tree c.args.query)))) (sym c.in-Newest.is) c.ask.ensures.ok
+    subst (λ (a : Ask). OnOk c.ask.result (TakesLine g.O.Office.holds g.O.Office.asked c.args.self.now c.ask.new.self (query a (tree c.args.query)))) (sym c.in-Newest.is) c.ask.ensures.ok
 
 pub returns-in-Counts-clause-ok : goal.returns-in-Counts-clause-ok
 returns-in-Counts-clause-ok g c =
-    subst (λ (a : Ask). OnOk c.count.result (TakesLine g.O.Office.holds g.O.Office.above c.args.self.now c.count.new.self (query a (tree c.args.query)))) (sym c.in-Counts.is) c.count.ensures.ok
+    subst (λ (a : Ask). OnOk c.count.result (TakesLine g.O.Office.holds g.O.Office.asked c.args.self.now c.count.new.self (query a (tree c.args.query)))) (sym c.in-Counts.is) c.count.ensures.ok
