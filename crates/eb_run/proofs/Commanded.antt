@@ -11,15 +11,11 @@ use Rattle.eb_lines.specs.declared.status.Status.{Status}
 use Rattle.eb_lines.specs.declared.status.Status.TheVariants.{Done, Refused, ReadFault, WriteFault, NoMemory, BadImage}
 use Rattle.eb_lines.specs.Outcomes as outcomes
 use Rattle.eb_lines.proofs.Told.{ends_told, ends_mean, completes}
-use Rattle.run_store.specs.Rules.{is_bad}
-use Rattle.run_store.specs.Sees.{exactly, at_least}
 use Rattle.run_store.proofs.Taking.{ends_none}
-use Rattle.run_over_parts.specs.Texts.{parts_rules}
-use Rattle.run_index.specs.IndexRules.{index_rules}
 use Rattle.eb_run.specs.Command.{Asks, asks}
 use Rattle.eb_run.specs.declared.command.Command.{Command}
-use Rattle.eb_run.specs.declared.command.Command.TheVariants.{Run, RunWorkers, RunParts, RunWatches, Bench, Save, Load}
-use Rattle.eb_run.specs.Output.{way_of}
+use Rattle.eb_run.specs.declared.command.Command.TheVariants.{Run, Bench, Save, Load}
+use Rattle.eb_run.specs.Output.{run_rules}
 use Rattle.eb_run.specs.Ran.{EndsBy, HasImage, WroteLoad, Prints, Ran, Means, Completes}
 use Rattle.eb_run.proofs.Benches.{figures_told, figures_mean, figures_end, figures_none}
 use Rattle.eb_run.proofs.Loads.{bad_told, load_none}
@@ -27,8 +23,6 @@ use Rattle.run_images.specs.SavingLaws.{parts_first}
 use Rattle.run_images.proofs.Savings.{parts_none}
 use Rattle.eb_image.specs.Image.{head_of, image_of}
 use Rattle.eb_lines.proofs.PassingLines as passing
-use Rattle.run_with_watches.specs.Others.{ReadsOther}
-use Rattle.run_with_watches.specs.WatchRules.{watch_rules}
 
 left_told : (bytes taken : List ℕ) (left : Option (List ℕ)) → Some bytes ≡ after taken left → (rest : List ℕ) × (left ≡ Some rest) × (bytes ≡ taken ++ rest)
 left_told bytes taken None e = let no : ⊥ = cc in absurd no
@@ -76,10 +70,7 @@ module _ (status : Status) (l0 l1 p0 p1 : Option (List ℕ)) where
   -- ---- of each command
 
   pub ran_of : (how : Dialect) (c : Command) → EndsBy how c status l0 l1 p0 p1 → Ran how c status l0 l1 p0 p1
-  ran_of how (Run overlap form σ) e = λ bytes before source sink. ends_told _ _ _ _ status _ _ _ _ bytes e source before sink
-  ran_of how (RunWorkers n form σ) e = λ bytes before source sink. ends_told _ _ _ _ status _ _ _ _ bytes e source before sink
-  ran_of how (RunParts n overlap form σ) e = λ bytes before source sink. ends_told _ _ _ _ status _ _ _ _ bytes e source before sink
-  ran_of how (RunWatches form σ) e = λ bytes before source sink. ends_told _ _ _ _ status _ _ _ _ bytes e source before sink
+  ran_of how (Run mode form σ) e = λ bytes before source sink. ends_told _ _ _ _ status _ _ _ _ bytes e source before sink
   ran_of how (Bench start count) e = λ before sink. figures_told status start count p0 p1 before e sink
   ran_of how (Save σ) e = λ bytes before source sink. ends_told _ _ _ _ status _ _ _ _ bytes e source before sink
   ran_of how (Load form) e = record {
@@ -93,19 +84,13 @@ module _ (status : Status) (l0 l1 p0 p1 : Option (List ℕ)) where
   only_load how c e is = go c (subst (λ (s : Status). EndsBy how c s l0 l1 p0 p1) is e)
     where
       go : (d : Command) → EndsBy how d BadImage l0 l1 p0 p1 → (form : Form) × (d ≡ Load form)
-      go (Run overlap form σ) r = absurd r.ends
-      go (RunWorkers n form σ) r = absurd r.ends
-      go (RunParts n overlap form σ) r = absurd r.ends
-      go (RunWatches form σ) r = absurd r.ends
+      go (Run mode form σ) r = absurd r.ends
       go (Bench start count) r = absurd r.2
       go (Save σ) r = absurd r.ends
       go (Load form) r = (form, refl)
 
   pub means_of : (how : Dialect) (c : Command) → EndsBy how c status l0 l1 p0 p1 → Means how c status l0 l1
-  means_of how (Run overlap form σ) e = λ bytes source. ends_mean _ _ _ _ status _ _ _ _ bytes e source
-  means_of how (RunWorkers n form σ) e = λ bytes source. ends_mean _ _ _ _ status _ _ _ _ bytes e source
-  means_of how (RunParts n overlap form σ) e = λ bytes source. ends_mean _ _ _ _ status _ _ _ _ bytes e source
-  means_of how (RunWatches form σ) e = λ bytes source. ends_mean _ _ _ _ status _ _ _ _ bytes e source
+  means_of how (Run mode form σ) e = λ bytes source. ends_mean _ _ _ _ status _ _ _ _ bytes e source
   means_of how (Bench start count) e = figures_mean status start count p0 p1 e
   means_of how (Save σ) e = λ bytes source. ends_mean _ _ _ _ status _ _ _ _ bytes e source
   means_of how (Load form) e = record {
@@ -116,10 +101,7 @@ module _ (status : Status) (l0 l1 p0 p1 : Option (List ℕ)) where
 
   module _ (read_risen write_risen : Type 0) (read : status ≡ ReadFault → read_risen) (write : status ≡ WriteFault → write_risen) where
     pub completes_of : (how : Dialect) (c : Command) → EndsBy how c status l0 l1 p0 p1 → Completes c read_risen write_risen status l0
-    completes_of how (Run overlap form σ) e = λ no_read no_write bytes source short. completes _ _ _ _ status _ _ _ _ _ _ bytes e read write no_read no_write source short
-    completes_of how (RunWorkers n form σ) e = λ no_read no_write bytes source short. completes _ _ _ _ status _ _ _ _ _ _ bytes e read write no_read no_write source short
-    completes_of how (RunParts n overlap form σ) e = λ no_read no_write bytes source short. completes _ _ _ _ status _ _ _ _ _ _ bytes e read write no_read no_write source short
-    completes_of how (RunWatches form σ) e = λ no_read no_write bytes source short. completes _ _ _ _ status _ _ _ _ _ _ bytes e read write no_read no_write source short
+    completes_of how (Run mode form σ) e = λ no_read no_write bytes source short. completes _ _ _ _ status _ _ _ _ _ _ bytes e read write no_read no_write source short
     completes_of how (Bench start count) e = λ no_write. figures_end status _ p0 p1 write_risen e write no_write
     completes_of how (Save σ) e = λ no_read no_write bytes source short. completes _ _ _ _ status _ _ _ _ _ _ bytes e read write no_read no_write source short
     completes_of how (Load form) e = λ no_read no_write σ docs rest allowed lawful source short.
@@ -135,10 +117,7 @@ ends_asked o a how c status l0 l1 p0 p1 own is ends = subst (λ (x : Option Asks
 -- ---- where memory ran out before anything was done
 
 pub none_done : (how : Dialect) (c : Command) (left printed : Option (List ℕ)) → EndsBy how c NoMemory left left printed printed
-none_done how (Run overlap form σ) left printed = ends_none is_bad (way_of overlap) (index_rules how σ form []) left printed
-none_done how (RunWorkers n form σ) left printed = ends_none is_bad at_least (index_rules how σ form []) left printed
-none_done how (RunParts n overlap form σ) left printed = ends_none is_bad exactly (parts_rules how n σ form) left printed
-none_done how (RunWatches form σ) left printed = ends_none ReadsOther exactly (watch_rules how σ form) left printed
+none_done how (Run mode form σ) left printed = let r = run_rules how σ mode form in ends_none r.other r.way r.rules left printed
 none_done how (Bench start count) left printed = figures_none _ printed
 none_done how (Save σ) left printed = passing.ends_at_once _ _ _ _ (parts_first (saved.asked how σ)) left printed (head_of σ) (parts_none (saved.asked how σ))
 none_done how (Load form) left printed = load_none how form left printed

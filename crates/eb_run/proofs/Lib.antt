@@ -6,8 +6,8 @@ pub mod Runnings
 pub mod Runs
 pub mod Loads
 pub mod Benches
-pub mod Commands
 pub mod Commanded
+pub mod Modes
 pub mod MadeLines
 pub mod Feeds
 pub mod FeedsInOrder

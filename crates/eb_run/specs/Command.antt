@@ -1,6 +1,6 @@
 -- What the words of a command line ask; they are without the program's name.
 use Rattle.eb_fields.specs.Dialect.{Dialect, plain}
-use Rattle.std.specs.Prelude.{ℕ, ◌*◌, ◌^◌, ◌&&◌, Bool, true, false, List, [], ◌∷◌, ◌++◌, codes, nat_le, Option, Some, None, if◌then◌else◌, option_map, option_and_then}
+use Rattle.std.specs.Prelude.{ℕ, ◌*◌, ◌^◌, ◌≤◌, ◌&&◌, Bool, true, false, List, [], ◌∷◌, ◌++◌, codes, nat_le, Option, Some, None, if◌then◌else◌, option_map, option_and_then}
 use Rattle.std.specs.Str.{bytes_eq}
 use Rattle.eb_base.specs.Setting.{Setting, words_of}
 use Rattle.eb_lines.specs.declared.form.Form.{Form}
@@ -12,7 +12,9 @@ use Rattle.eb_fields.specs.Fields.{is_field_list, names_in}
 use Rattle.eb_text.specs.declared.cutting.Cut.{Cut}
 use Rattle.eb_text.specs.declared.cutting.Cut.TheVariants.{Words, Pieces}
 use Rattle.eb_run.specs.declared.command.Command.{Command}
-use Rattle.eb_run.specs.declared.command.Command.TheVariants.{Run, RunWorkers, RunParts, RunWatches, Bench, Save, Load}
+use Rattle.eb_run.specs.declared.command.Command.TheVariants.{Run, Bench, Save, Load}
+use Rattle.eb_run.specs.declared.command.mode.Mode.{Mode}
+use Rattle.eb_run.specs.declared.command.mode.Mode.TheVariants.{InOrder, Overlap, Workers, Parts, OverlapParts, Watch}
 
 -- in which form the output is written, where the items say so
 abbrev pub form_of : Items → Form
@@ -41,27 +43,30 @@ run_options = codes "workers" ∷ codes "parts" ∷ setting_options
 abbrev pub is_few : ℕ → Bool
 is_few n = nat_le 1 n && nat_le n 16
 
--- to run with this many workers
-abbrev pub with_workers : ℕ → Form → Setting → Option Command
-with_workers n form σ = if is_few n then Some (RunWorkers n form σ) else None
+-- with this many workers
+abbrev pub with_workers : ℕ → Option Mode
+with_workers n = if is_few n then Some (Workers n) else None
 
--- to run over this many parts, with or without overlap, which together have at most as many words
--- as an index may have
-abbrev pub over_parts : ℕ → Bool → Form → Setting → Option Command
-over_parts n overlap form σ = if is_few n && nat_le (n * words_of σ) (2 ^ 27) then Some (RunParts n overlap form σ) else None
+-- over this many parts, with or without overlap, which together have at most as many words as an
+-- index may have
+abbrev pub over_parts : ℕ → Bool → Setting → Option Mode
+over_parts n overlap σ = if is_few n && nat_le (n * words_of σ) (2 ^ 27) then Some (if overlap then OverlapParts n else Parts n) else None
 
 -- at most one of overlap, watches, workers and parts, except that overlap may go with parts
-abbrev pub run_by : Bool → Bool → Option ℕ → Option ℕ → Form → Setting → Option Command
-run_by overlap false None None form σ = Some (Run overlap form σ)
-run_by false true None None form σ = Some (RunWatches form σ)
-run_by false false (Some n) None form σ = with_workers n form σ
-run_by overlap false None (Some n) form σ = over_parts n overlap form σ
-run_by overlap watch workers parts form σ = None
+abbrev pub mode_by : Bool → Bool → Option ℕ → Option ℕ → Setting → Option Mode
+mode_by false false None None σ = Some InOrder
+mode_by true false None None σ = Some Overlap
+mode_by false true None None σ = Some Watch
+mode_by false false (Some n) None σ = with_workers n
+mode_by overlap false None (Some n) σ = over_parts n overlap σ
+mode_by overlap watch workers parts σ = None
+
+abbrev pub mode_of : Items → Setting → Option Mode
+mode_of items σ = mode_by (has (codes "overlap") items) (has (codes "watch") items) (option_number (codes "workers") items) (option_number (codes "parts") items) σ
 
 -- what the items after `run` ask for
 abbrev pub run_with : Items → Option Command
-run_with items = option_and_then (λ σ. run_by (has (codes "overlap") items) (has (codes "watch") items) (option_number (codes "workers") items) (option_number (codes "parts") items)
-    (form_of items) σ) (setting_of items)
+run_with items = option_and_then (λ σ. option_map (λ mode. Run mode (form_of items) σ) (mode_of items σ)) (setting_of items)
 
 -- what the words after `run` ask for: its flags and options, in any order, each at most once
 abbrev pub run_of : List (List ℕ) → Option Counting
@@ -98,6 +103,24 @@ load_with items = Load (form_of items)
 -- what the words after `load` ask for: its flags, in any order, each at most once
 abbrev pub load_of : List (List ℕ) → Option Counting
 load_of words = option_map (λ items. counting (has (codes "counts") items) (load_with items)) (items_of load_flags [] words)
+
+-- ---- what is in range
+
+-- where there are workers or parts, they are 1 to 16
+abbrev pub HasFew : Mode → Type 0
+HasFew InOrder = Unit {0}
+HasFew Overlap = Unit {0}
+HasFew (Workers n) = (1 ≤ n) × (n ≤ 16)
+HasFew (Parts n) = (1 ≤ n) × (n ≤ 16)
+HasFew (OverlapParts n) = (1 ≤ n) × (n ≤ 16)
+HasFew Watch = Unit {0}
+
+-- and a made input has at most 40,000 documents
+abbrev pub IsInRange : Command → Type 0
+IsInRange (Run mode form σ) = HasFew mode
+IsInRange (Bench start docs) = docs ≤ 40000
+IsInRange (Save σ) = Unit {0}
+IsInRange (Load form) = Unit {0}
 
 -- ---- how lines are read
 

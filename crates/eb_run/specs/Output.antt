@@ -1,19 +1,39 @@
--- What a run prints for the bytes of an input.
+-- What a run prints for the bytes of an input, by its mode.
 use Rattle.eb_fields.specs.Dialect.{Dialect}
-use Rattle.std.specs.Prelude.{ℕ, Bool, true, false, List, []}
-use Rattle.run_store.specs.Rules.{is_bad}
-use Rattle.run_store.specs.Sees.{Reach, exactly, between}
+use Rattle.std.specs.Prelude.{ℕ, List, []}
+use Rattle.run_store.specs.Rules.{Rules, is_bad}
+use Rattle.run_store.specs.Sees.{Reach, exactly, between, at_least}
 use Rattle.run_store.specs.Text.{IsText}
 use Rattle.eb_base.specs.Setting.{Setting}
 use Rattle.run_index.specs.IndexRules.{index_rules}
+use Rattle.run_over_parts.specs.Texts.{parts_rules}
+use Rattle.run_with_watches.specs.Others.{ReadsOther}
+use Rattle.run_with_watches.specs.WatchRules.{watch_rules}
 use Rattle.eb_io.specs.Lines.{lines_of}
+use Rattle.eb_lines.specs.Reading.{Reading}
 use Rattle.eb_lines.specs.declared.form.Form.{Form}
+use Rattle.eb_watch.specs.Watches.{Watched}
+use Rattle.eb_run.specs.declared.command.mode.Mode.{Mode}
+use Rattle.eb_run.specs.declared.command.mode.Mode.TheVariants.{InOrder, Overlap, Workers, Parts, OverlapParts, Watch}
 
--- which documents its queries may see, with or without overlap
-abbrev pub way_of : (overlap : Bool) → Reach
-way_of true = between
-way_of false = exactly
+-- by which rules a run goes, where `Held` is what its store holds beside documents: how a line is
+-- read that is neither blank, nor a document or query line; which documents its queries may see; and
+-- the rules of its store
+pub record RunRules : Type 1 where
+  pub Held : Type 0
+  pub other : Dialect → List ℕ → Reading → Type 0
+  pub way : Reach
+  pub rules : Rules Held
 
--- the text of an input of these bytes, over an index of this setting
-abbrev pub IsOutput : Dialect → Setting → Bool → Form → List ℕ → List ℕ → Type 0
-IsOutput how σ overlap form bytes printed = IsText is_bad (way_of overlap) (index_rules how σ form []) (lines_of bytes) printed
+-- in this mode, over an index of this setting, or several
+abbrev pub run_rules : Dialect → Setting → Mode → Form → RunRules
+run_rules how σ InOrder form = record { Held = Unit {0}; other = is_bad; way = exactly; rules = index_rules how σ form [] }
+run_rules how σ Overlap form = record { Held = Unit {0}; other = is_bad; way = between; rules = index_rules how σ form [] }
+run_rules how σ (Workers n) form = record { Held = Unit {0}; other = is_bad; way = at_least; rules = index_rules how σ form [] }
+run_rules how σ (Parts n) form = record { Held = Unit {0}; other = is_bad; way = exactly; rules = parts_rules how n σ form }
+run_rules how σ (OverlapParts n) form = record { Held = Unit {0}; other = is_bad; way = exactly; rules = parts_rules how n σ form }
+run_rules how σ Watch form = record { Held = List Watched; other = ReadsOther; way = exactly; rules = watch_rules how σ form }
+
+-- the text of an input of these bytes
+abbrev pub IsOutput : Dialect → Setting → Mode → Form → List ℕ → List ℕ → Type 0
+IsOutput how σ mode form bytes printed = let r = run_rules how σ mode form in IsText r.other r.way r.rules (lines_of bytes) printed

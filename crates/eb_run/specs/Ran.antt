@@ -3,8 +3,6 @@
 -- where that is known.
 use Rattle.eb_fields.specs.Dialect.{Dialect}
 use Rattle.std.specs.Prelude.{◌≡◌, ◌⊎◌, ℕ, ◌<◌, Bool, true, false, List, [], ◌++◌, length, Option, Some, None}
-use Rattle.run_store.specs.Rules.{is_bad}
-use Rattle.run_store.specs.Sees.{exactly, at_least}
 use Rattle.run_store.specs.Text.{EndsOf, WroteOf, MeansOf}
 use Rattle.run_images.specs.Loaded.{Loaded, EndsLoad, IsImage, WhyUnread, WroteLoaded, MeansLoaded, IsBodyBehind, IsTextBehind, HasRefusalBehind, HasNoRefusalBehind}
 use Rattle.run_images.specs.Saved as saved
@@ -20,23 +18,20 @@ use Rattle.eb_lines.specs.declared.status.Status.{Status}
 use Rattle.eb_lines.specs.declared.status.Status.TheVariants.{Done, Refused, BadImage}
 use Rattle.eb_lines.specs.Outcomes as outcomes
 use Rattle.eb_lines.specs.Passing as passing
-use Rattle.run_over_parts.specs.Texts.{parts_rules}
 use Rattle.eb_place.specs.Room.{IsLawful}
-use Rattle.run_index.specs.IndexRules.{index_rules}
-use Rattle.run_with_watches.specs.Others.{ReadsOther}
-use Rattle.run_with_watches.specs.WatchRules.{watch_rules}
 use Rattle.eb_run.specs.declared.command.Command.{Command}
-use Rattle.eb_run.specs.declared.command.Command.TheVariants.{Run, RunWorkers, RunParts, RunWatches, Bench, Save, Load}
+use Rattle.eb_run.specs.declared.command.Command.TheVariants.{Run, Bench, Save, Load}
+use Rattle.eb_run.specs.declared.command.mode.Mode.{Mode}
 use Rattle.eb_run.specs.Bench.{WroteBench, MeansBench, PrintsFigures}
-use Rattle.eb_run.specs.Output.{way_of}
+use Rattle.eb_run.specs.Output.{run_rules}
 
 -- ---- how a command ends, also where source and `out` tell no bytes
 
+abbrev pub EndsRun : Dialect → Setting → Mode → Form → Status → (l0 l1 p0 p1 : Option (List ℕ)) → Type 0
+EndsRun how σ mode form = let r = run_rules how σ mode form in EndsOf r.other r.way r.rules
+
 abbrev pub EndsBy : Dialect → Command → Status → (l0 l1 p0 p1 : Option (List ℕ)) → Type 0
-EndsBy how (Run overlap form σ) status l0 l1 p0 p1 = EndsOf is_bad (way_of overlap) (index_rules how σ form []) status l0 l1 p0 p1
-EndsBy how (RunWorkers n form σ) status l0 l1 p0 p1 = EndsOf is_bad at_least (index_rules how σ form []) status l0 l1 p0 p1
-EndsBy how (RunParts n overlap form σ) status l0 l1 p0 p1 = EndsOf is_bad exactly (parts_rules how n σ form) status l0 l1 p0 p1
-EndsBy how (RunWatches form σ) status l0 l1 p0 p1 = EndsOf ReadsOther exactly (watch_rules how σ form) status l0 l1 p0 p1
+EndsBy how (Run mode form σ) status l0 l1 p0 p1 = EndsRun how σ mode form status l0 l1 p0 p1
 EndsBy how (Bench start count) status l0 l1 p0 p1 = PrintsFigures status (lines_of (made start count)) p0 p1
 EndsBy how (Save σ) status l0 l1 p0 p1 =
     let a = saved.asked how σ in passing.Ends (saved.AreParts a) (saved.IsSaved a) (saved.HasUnsaved a) (saved.HasNoUnsaved a) status l0 l1 p0 p1
@@ -73,10 +68,7 @@ pub record RanLoad (how : Dialect) (form : Form) (status : Status) (l0 l1 p0 p1 
   pub bad_image : status ≡ BadImage → p1 ≡ p0
 
 abbrev pub Ran : Dialect → Command → Status → (l0 l1 p0 p1 : Option (List ℕ)) → Type 0
-Ran how (Run overlap form σ) status l0 l1 p0 p1 = Prints (WroteOf is_bad (way_of overlap) (index_rules how σ form []) status) l0 l1 p0 p1
-Ran how (RunWorkers n form σ) status l0 l1 p0 p1 = Prints (WroteOf is_bad at_least (index_rules how σ form []) status) l0 l1 p0 p1
-Ran how (RunParts n overlap form σ) status l0 l1 p0 p1 = Prints (WroteOf is_bad exactly (parts_rules how n σ form) status) l0 l1 p0 p1
-Ran how (RunWatches form σ) status l0 l1 p0 p1 = Prints (WroteOf ReadsOther exactly (watch_rules how σ form) status) l0 l1 p0 p1
+Ran how (Run mode form σ) status l0 l1 p0 p1 = let r = run_rules how σ mode form in Prints (WroteOf r.other r.way r.rules status) l0 l1 p0 p1
 Ran how (Bench start count) status l0 l1 p0 p1 = (before : List ℕ) → p0 ≡ Some before → (printed : List ℕ) × (p1 ≡ Some (before ++ printed)) × WroteBench status start count printed
 Ran how (Save σ) status l0 l1 p0 p1 = Prints (saved.WroteSaved (saved.asked how σ) status) l0 l1 p0 p1
 Ran how (Load form) status l0 l1 p0 p1 = RanLoad how form status l0 l1 p0 p1
@@ -94,10 +86,7 @@ pub record LoadMeans (how : Dialect) (form : Form) (status : Status) (l0 l1 : Op
   pub bad_image : status ≡ BadImage → (taken : List ℕ) × (l0 ≡ after taken l1) × IsBad IsImage taken l1
 
 abbrev pub Means : Dialect → Command → Status → (l0 l1 : Option (List ℕ)) → Type 0
-Means how (Run overlap form σ) status l0 l1 = Told (MeansOf is_bad (index_rules how σ form []) status) l0 l1
-Means how (RunWorkers n form σ) status l0 l1 = Told (MeansOf is_bad (index_rules how σ form []) status) l0 l1
-Means how (RunParts n overlap form σ) status l0 l1 = Told (MeansOf is_bad (parts_rules how n σ form) status) l0 l1
-Means how (RunWatches form σ) status l0 l1 = Told (MeansOf ReadsOther (watch_rules how σ form) status) l0 l1
+Means how (Run mode form σ) status l0 l1 = let r = run_rules how σ mode form in Told (MeansOf r.other r.rules status) l0 l1
 Means how (Bench start count) status l0 l1 = MeansBench status start count
 Means how (Save σ) status l0 l1 = Told (saved.MeansSaved (saved.asked how σ) status) l0 l1
 Means how (Load form) status l0 l1 = LoadMeans how form status l0 l1
@@ -109,10 +98,7 @@ abbrev pub InTime : (read_risen write_risen : Type 0) → Status → Option (Lis
 InTime read_risen write_risen status l0 = (read_risen → ⊥) → (write_risen → ⊥) → (bytes : List ℕ) → l0 ≡ Some bytes → length bytes < longest_input → outcomes.IsWorkedOff status
 
 abbrev pub Completes : Command → (read_risen write_risen : Type 0) → Status → Option (List ℕ) → Type 0
-Completes (Run overlap form σ) read_risen write_risen status l0 = InTime read_risen write_risen status l0
-Completes (RunWorkers n form σ) read_risen write_risen status l0 = InTime read_risen write_risen status l0
-Completes (RunParts n overlap form σ) read_risen write_risen status l0 = InTime read_risen write_risen status l0
-Completes (RunWatches form σ) read_risen write_risen status l0 = InTime read_risen write_risen status l0
+Completes (Run mode form σ) read_risen write_risen status l0 = InTime read_risen write_risen status l0
 Completes (Bench start count) read_risen write_risen status l0 = (write_risen → ⊥) → outcomes.IsWorkedOff status
 Completes (Save σ) read_risen write_risen status l0 = InTime read_risen write_risen status l0
 Completes (Load form) read_risen write_risen status l0 = (read_risen → ⊥) → (write_risen → ⊥)
@@ -122,10 +108,7 @@ Completes (Load form) read_risen write_risen status l0 = (read_risen → ⊥) �
 
 abbrev pub reads_source : Option Command → Bool
 reads_source None = false
-reads_source (Some (Run overlap form σ)) = true
-reads_source (Some (RunWorkers n form σ)) = true
-reads_source (Some (RunParts n overlap form σ)) = true
-reads_source (Some (RunWatches form σ)) = true
+reads_source (Some (Run mode form σ)) = true
 reads_source (Some (Bench start count)) = false
 reads_source (Some (Save σ)) = true
 reads_source (Some (Load form)) = true

@@ -1,6 +1,6 @@
 ghost use Rattle.std.specs.Prelude.{◌≡◌, [], Some, None, IfOk, IsErrOf, map, option_map, string_bytes};
 ghost use Rattle.eb_options.specs.Items.{texts};
-ghost use Rattle.eb_run.specs.Command.{asked_of, with_dialect, run_of, run_options, save_of, load_of};
+ghost use Rattle.eb_run.specs.Command.{asked_of, with_dialect, run_of, run_options, save_of, load_of, IsInRange};
 ghost use Rattle.eb_options.specs.Settings.{setting_options};
 ghost use Rattle.eb_run.specs.Requests.{request_view};
 
@@ -8,6 +8,7 @@ mod bench;
 pub(crate) mod form;
 mod images;
 mod lines;
+mod mode;
 
 use crate::fields::take_dialect;
 use bench::read_bench;
@@ -16,49 +17,21 @@ use eb_fields::Dialect;
 use eb_lines::Form;
 use images::{LOAD_VALUES, SAVE_VALUES, read_load, read_save};
 use lines::{RUN_VALUES, read_run};
+pub use mode::Mode;
 use std::alloc::Global;
 
 /// What the words of a command line ask for.
 #[derive(Clone, Copy, Debug, PartialEq, Eq)]
 pub enum Command {
-    /// `run`: read lines, with an index of this setting.
+    /// `run`: read lines.
     Run {
-        /// Whether documents are added while queries are answered (`--overlap`).
-        overlap: bool,
+        /// How the lines are processed (`--overlap`, `--workers`, `--parts` and `--watch`).
+        mode: Mode,
         /// How the output is written (`--json`), and whether the segments are printed after the
         /// summary (`--stats`).
         form: Form,
-        /// The setting that the options give; what they don't name is as in `Config::usual`.
-        config: Config,
-    },
-    /// `run --workers N`: read lines, and let workers answer the queries.
-    RunWorkers {
-        /// How many workers live for the whole run, 1 to 16.
-        workers: u32,
-        /// How the output is written (`--json`), and whether the segments are printed after the
-        /// summary (`--stats`).
-        form: Form,
-        /// The setting that the options give, as of `Run`.
-        config: Config,
-    },
-    /// `run --parts N`: read lines, with several indexes, to which documents go by their ids.
-    RunParts {
-        /// How many indexes there are, 1 to 16.
-        parts: u32,
-        /// Whether lines are read concurrently, and the parts add concurrently (`--overlap`).
-        overlap: bool,
-        /// How the output is written (`--json`), and whether the segments of all parts are printed
-        /// after the summary (`--stats`).
-        form: Form,
-        /// The setting of each of them, that the options give, as of `Run`.
-        config: Config,
-    },
-    /// `run --watch`: read lines, those that set and remove watches among them.
-    RunWatches {
-        /// How the output is written (`--json`), and whether the segments are printed after the
-        /// summary (`--stats`).
-        form: Form,
-        /// The setting that the options give, as of `Run`.
+        /// The setting of the index, or of each of them, that the options give; what they don't
+        /// name is as in `Config::usual`.
         config: Config,
     },
     /// `bench START DOCS`: process made input.
@@ -110,6 +83,7 @@ pub(crate) struct Counting {
 // What the words after `run` ask for.
 fn ask_run<'a>(alloc: Global, words: &'a [String]) -> Result<Request<'a>, CommandFault>
     ensures request { IfOk result (λ request. with_dialect run_options run_of (map string_bytes words.entry.now) ≡ Some (request_view request)) }
+    ensures range { IfOk result (λ request. IsInRange request.command) }
     ensures usage { IsErrOf result CommandFault.Usage → with_dialect run_options run_of (map string_bytes words.entry.now) ≡ None }
 {
     match take_dialect(alloc, words, &RUN_VALUES) {
@@ -130,6 +104,7 @@ fn ask_run<'a>(alloc: Global, words: &'a [String]) -> Result<Request<'a>, Comman
 // What the words after `save` ask for.
 fn ask_save<'a>(alloc: Global, words: &'a [String]) -> Result<Request<'a>, CommandFault>
     ensures request { IfOk result (λ request. with_dialect setting_options save_of (map string_bytes words.entry.now) ≡ Some (request_view request)) }
+    ensures range { IfOk result (λ request. IsInRange request.command) }
     ensures usage { IsErrOf result CommandFault.Usage → with_dialect setting_options save_of (map string_bytes words.entry.now) ≡ None }
 {
     match take_dialect(alloc, words, &SAVE_VALUES) {
@@ -150,6 +125,7 @@ fn ask_save<'a>(alloc: Global, words: &'a [String]) -> Result<Request<'a>, Comma
 // What the words after `load` ask for.
 fn ask_load<'a>(alloc: Global, words: &'a [String]) -> Result<Request<'a>, CommandFault>
     ensures request { IfOk result (λ request. with_dialect [] load_of (map string_bytes words.entry.now) ≡ Some (request_view request)) }
+    ensures range { IfOk result (λ request. IsInRange request.command) }
     ensures usage { IsErrOf result CommandFault.Usage → with_dialect [] load_of (map string_bytes words.entry.now) ≡ None }
 {
     match take_dialect(alloc, words, &LOAD_VALUES) {
@@ -187,6 +163,7 @@ fn ask_load<'a>(alloc: Global, words: &'a [String]) -> Result<Request<'a>, Comma
 /// Usage comes exactly where the words are none of these; NoMemory is free.
 pub fn read_command<'a>(alloc: Global, words: &'a Vec<String>) -> Result<Request<'a>, CommandFault>
     ensures request { IfOk result (λ request. asked_of (map string_bytes words.entry.now.items) ≡ Some (request_view request)) }
+    ensures range { IfOk result (λ request. IsInRange request.command) }
     ensures usage { IsErrOf result CommandFault.Usage → asked_of (map string_bytes words.entry.now.items) ≡ None }
 {
     let Some((name, rest)) = words.split_first() else {

@@ -7,14 +7,13 @@ ghost use Rattle.run_index.specs.IndexRules.{rules_of};
 ghost use Rattle.eb_io.specs.Faults.{HasRisen};
 ghost use Rattle.eb_lines.specs.declared.form.Form.{Form};
 ghost use Rattle.eb_lines.specs.Programs.{IsRunning, WorksOn};
-ghost use Rattle.eb_run.specs.Command.{asked_of, asks};
-ghost use Rattle.eb_run.specs.Output.{way_of};
-ghost use Rattle.eb_run.specs.Ran.{EndsBy, Ran, Means, Completes, reads_source};
+ghost use Rattle.eb_run.specs.Command.{asked_of, asks, HasFew};
+ghost use Rattle.eb_run.specs.Ran.{EndsBy, EndsRun, Ran, Means, Completes, reads_source};
 ghost use Rattle.eb_run.specs.Running.{HasRun, HoldsNone};
 ghost use Rattle.eb_run.specs.StatusLine.{status_line};
 
 use crate::bench::run_bench;
-use crate::command::{Command, CommandFault, Request, read_command};
+use crate::command::{Command, CommandFault, Mode, Request, read_command};
 use crate::program::RunProgram;
 use crate::running::Running;
 use crate::usage::USAGE;
@@ -106,50 +105,13 @@ fn run_words<R: Threads + Wait + Sync, S: Source, K: Sink, G: Gate + Sync>(
         Err(CommandFault::NoMemory) => return Status::NoMemory,
     };
     match command {
-        Command::Run {
-            overlap,
-            form,
-            config,
-        } => {
+        Command::Run { mode, form, config } => {
             let plan = Plan {
                 dialect,
                 form,
                 config,
             };
-            run_lines(rt, alloc, overlap, &plan, source, out, gate)
-        }
-        Command::RunWorkers {
-            workers,
-            form,
-            config,
-        } => {
-            let plan = Plan {
-                dialect,
-                form,
-                config,
-            };
-            run_workers(rt, alloc, workers, &plan, source, out, gate)
-        }
-        Command::RunParts {
-            parts,
-            overlap,
-            form,
-            config,
-        } => {
-            let plan = Plan {
-                dialect,
-                form,
-                config,
-            };
-            run_parts(rt, alloc, parts, overlap, &plan, source, out, gate)
-        }
-        Command::RunWatches { form, config } => {
-            let plan = Plan {
-                dialect,
-                form,
-                config,
-            };
-            run_watches(alloc, &plan, source, out, gate)
+            run_lines(rt, alloc, mode, &plan, source, out, gate)
         }
         Command::Bench { start, docs } => run_bench(alloc, start, docs, out, gate),
         Command::Save { config } => save_lines(alloc, dialect, config, source, out, gate),
@@ -157,25 +119,29 @@ fn run_words<R: Threads + Wait + Sync, S: Source, K: Sink, G: Gate + Sync>(
     }
 }
 
-// Processes the lines one after the other, or adds documents while queries are answered.
-fn run_lines<R: Threads + Sync, S: Source, K: Sink, G: Gate + Sync>(
+// Processes the lines in this mode.
+fn run_lines<R: Threads + Wait + Sync, S: Source, K: Sink, G: Gate + Sync>(
     rt: &R,
     alloc: Global,
-    overlap: bool,
+    mode: Mode,
     plan: &Plan<'_>,
     source: &mut S,
     out: &mut K,
     gate: &G,
 ) -> Status
-    ensures ends { EndsOf is_bad (way_of overlap) (rules_of (dialect_of plan.entry.now.dialect) plan.entry.now) result
+    requires { HasFew mode }
+    ensures ends { EndsRun (dialect_of plan.entry.now.dialect) plan.entry.now.config mode plan.entry.now.form result
         (S.left source.old) (S.left source.new) (K.taken out.old) (K.taken out.new) }
     ensures read_fault { result ≡ Status.ReadFault → HasRisen (S.faults source.old) (S.faults source.new) }
     ensures write_fault { result ≡ Status.WriteFault → HasRisen (K.faults out.old) (K.faults out.new) }
 {
-    if overlap {
-        run_beside(rt, alloc, plan, source, out, gate)
-    } else {
-        run_in_order(alloc, plan, source, out, gate)
+    match mode {
+        Mode::InOrder => run_in_order(alloc, plan, source, out, gate),
+        Mode::Overlap => run_beside(rt, alloc, plan, source, out, gate),
+        Mode::Workers(workers) => run_workers(rt, alloc, workers, plan, source, out, gate),
+        Mode::Parts(parts) => run_parts(rt, alloc, parts, false, plan, source, out, gate),
+        Mode::OverlapParts(parts) => run_parts(rt, alloc, parts, true, plan, source, out, gate),
+        Mode::Watch => run_watches(alloc, plan, source, out, gate),
     }
 }
 

@@ -1,20 +1,21 @@
 ghost use Rattle.eb_run.specs.FeedLaws.{SomeFeedText, OneFeedText, OrderFeedText, NeverFull};
 ghost use Rattle.eb_run.specs.Laws.{SomeText, OneText, OrderText};
 
-/// The rules leave no input out: each has a text, with and without `--overlap`. The call does
-/// nothing.
+/// The rules leave no input out: each has a text, in each mode. The call does nothing.
 pub fn some_text()
     ensures { SomeText }
 {}
 
-/// Without `--overlap` the rules give an input one text and no other. So the input's bytes decide
-/// what a run prints up to the end of its input. The call does nothing.
+/// Without workers, and without `--overlap` over one index, the rules give an input one text and no
+/// other. So the input's bytes decide what a run prints up to the end of its input. The call does
+/// nothing.
 pub fn one_text()
     ensures { OneText }
 {}
 
-/// This text is one of those that the rules allow with `--overlap`: they allow each query to see
-/// just the documents before it. The call does nothing.
+/// The text of lines that are processed one after the other is one of those that the rules allow
+/// with `--overlap`: they allow each query to see just the documents before it. The call does
+/// nothing.
 pub fn order_text()
     ensures { OrderText }
 {}

@@ -18,7 +18,7 @@ mod program;
 mod running;
 mod usage;
 
-pub use command::{Command, CommandFault, Request, read_command};
+pub use command::{Command, CommandFault, Mode, Request, read_command};
 pub use dispatch::run;
 pub use feed::{FeedCommand, FeedRequest, FeedWay, read_feed_command, run_feed};
 pub use laws::{

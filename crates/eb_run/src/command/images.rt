@@ -1,5 +1,5 @@
 ghost use Rattle.std.specs.Prelude.{◌≡◌, Some, None, IfOk, IsErrOf, map, string_bytes};
-ghost use Rattle.eb_run.specs.Command.{save_of, load_of};
+ghost use Rattle.eb_run.specs.Command.{save_of, load_of, IsInRange};
 ghost use Rattle.eb_run.specs.Requests.{counting_view};
 
 use crate::command::form::read_form;
@@ -25,6 +25,7 @@ pub(super) const SAVE_VALUES: [&str; 7] = [
 // What the words after `save` ask for.
 pub(super) fn read_save(alloc: Global, words: &[String]) -> Result<Counting, CommandFault>
     ensures command { IfOk result (λ command. save_of (map string_bytes words.now) ≡ Some (counting_view command)) }
+    ensures range { IfOk result (λ counting. IsInRange counting.command) }
     ensures usage { IsErrOf result CommandFault.Usage → save_of (map string_bytes words.now) ≡ None }
 {
     let items = match read_options(alloc, words, &SAVE_FLAGS, &SETTING_OPTIONS) {
@@ -44,6 +45,7 @@ pub(super) fn read_save(alloc: Global, words: &[String]) -> Result<Counting, Com
 // What the words after `load` ask for.
 pub(super) fn read_load(alloc: Global, words: &[String]) -> Result<Counting, CommandFault>
     ensures command { IfOk result (λ command. load_of (map string_bytes words.now) ≡ Some (counting_view command)) }
+    ensures range { IfOk result (λ counting. IsInRange counting.command) }
     ensures usage { IsErrOf result CommandFault.Usage → load_of (map string_bytes words.now) ≡ None }
 {
     match read_options(alloc, words, &LOAD_FLAGS, &LOAD_OPTIONS) {

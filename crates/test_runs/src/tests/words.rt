@@ -9,71 +9,71 @@ use std::test::Fail;
 const COMMANDS: [(&str, &str); 27] = [
     (
         "run",
-        "Run { overlap: false, form: Form { json: false, stats: false }, config: Config { segments: 12, docs: 4096, terms: 8192 } }",
+        "Run { mode: InOrder, form: Form { json: false, stats: false }, config: Config { segments: 12, docs: 4096, terms: 8192 } }",
     ),
     (
         "run --overlap",
-        "Run { overlap: true, form: Form { json: false, stats: false }, config: Config { segments: 12, docs: 4096, terms: 8192 } }",
+        "Run { mode: Overlap, form: Form { json: false, stats: false }, config: Config { segments: 12, docs: 4096, terms: 8192 } }",
     ),
     (
         "run --docs=1",
-        "Run { overlap: false, form: Form { json: false, stats: false }, config: Config { segments: 12, docs: 1, terms: 8192 } }",
+        "Run { mode: InOrder, form: Form { json: false, stats: false }, config: Config { segments: 12, docs: 1, terms: 8192 } }",
     ),
     (
         "run --docs 1 --segments=1",
-        "Run { overlap: false, form: Form { json: false, stats: false }, config: Config { segments: 1, docs: 1, terms: 8192 } }",
+        "Run { mode: InOrder, form: Form { json: false, stats: false }, config: Config { segments: 1, docs: 1, terms: 8192 } }",
     ),
     (
         "run --docs 1 --overlap --segments=1",
-        "Run { overlap: true, form: Form { json: false, stats: false }, config: Config { segments: 1, docs: 1, terms: 8192 } }",
+        "Run { mode: Overlap, form: Form { json: false, stats: false }, config: Config { segments: 1, docs: 1, terms: 8192 } }",
     ),
     (
         "run --stats --terms 1024 --overlap",
-        "Run { overlap: true, form: Form { json: false, stats: true }, config: Config { segments: 12, docs: 4096, terms: 1024 } }",
+        "Run { mode: Overlap, form: Form { json: false, stats: true }, config: Config { segments: 12, docs: 4096, terms: 1024 } }",
     ),
     (
         "run --docs=000000005 --stats",
-        "Run { overlap: false, form: Form { json: false, stats: true }, config: Config { segments: 12, docs: 5, terms: 8192 } }",
+        "Run { mode: InOrder, form: Form { json: false, stats: true }, config: Config { segments: 12, docs: 5, terms: 8192 } }",
     ),
     (
         "run --terms=1048576 --segments 1",
-        "Run { overlap: false, form: Form { json: false, stats: false }, config: Config { segments: 1, docs: 4096, terms: 1048576 } }",
+        "Run { mode: InOrder, form: Form { json: false, stats: false }, config: Config { segments: 1, docs: 4096, terms: 1048576 } }",
     ),
     (
         "run --workers 1",
-        "RunWorkers { workers: 1, form: Form { json: false, stats: false }, config: Config { segments: 12, docs: 4096, terms: 8192 } }",
+        "Run { mode: Workers(1), form: Form { json: false, stats: false }, config: Config { segments: 12, docs: 4096, terms: 8192 } }",
     ),
     (
         "run --stats --segments=2 --workers=16 --docs 2 --terms 1024",
-        "RunWorkers { workers: 16, form: Form { json: false, stats: true }, config: Config { segments: 2, docs: 2, terms: 1024 } }",
+        "Run { mode: Workers(16), form: Form { json: false, stats: true }, config: Config { segments: 2, docs: 2, terms: 1024 } }",
     ),
     (
         "run --parts 1",
-        "RunParts { parts: 1, overlap: false, form: Form { json: false, stats: false }, config: Config { segments: 12, docs: 4096, terms: 8192 } }",
+        "Run { mode: Parts(1), form: Form { json: false, stats: false }, config: Config { segments: 12, docs: 4096, terms: 8192 } }",
     ),
     (
         "run --parts=16 --stats --terms=1024 --docs 2 --segments=2",
-        "RunParts { parts: 16, overlap: false, form: Form { json: false, stats: true }, config: Config { segments: 2, docs: 2, terms: 1024 } }",
+        "Run { mode: Parts(16), form: Form { json: false, stats: true }, config: Config { segments: 2, docs: 2, terms: 1024 } }",
     ),
     (
         "run --parts 16 --docs 68264",
-        "RunParts { parts: 16, overlap: false, form: Form { json: false, stats: false }, config: Config { segments: 12, docs: 68264, terms: 8192 } }",
+        "Run { mode: Parts(16), form: Form { json: false, stats: false }, config: Config { segments: 12, docs: 68264, terms: 8192 } }",
     ),
     (
         "run --parts 1 --overlap",
-        "RunParts { parts: 1, overlap: true, form: Form { json: false, stats: false }, config: Config { segments: 12, docs: 4096, terms: 8192 } }",
+        "Run { mode: OverlapParts(1), form: Form { json: false, stats: false }, config: Config { segments: 12, docs: 4096, terms: 8192 } }",
     ),
     (
         "run --json --overlap --terms=1024 --parts=16 --docs 2 --segments=2",
-        "RunParts { parts: 16, overlap: true, form: Form { json: true, stats: false }, config: Config { segments: 2, docs: 2, terms: 1024 } }",
+        "Run { mode: OverlapParts(16), form: Form { json: true, stats: false }, config: Config { segments: 2, docs: 2, terms: 1024 } }",
     ),
     (
         "run --watch",
-        "RunWatches { form: Form { json: false, stats: false }, config: Config { segments: 12, docs: 4096, terms: 8192 } }",
+        "Run { mode: Watch, form: Form { json: false, stats: false }, config: Config { segments: 12, docs: 4096, terms: 8192 } }",
     ),
     (
         "run --docs 2 --watch --terms=1024 --stats --segments=2",
-        "RunWatches { form: Form { json: false, stats: true }, config: Config { segments: 2, docs: 2, terms: 1024 } }",
+        "Run { mode: Watch, form: Form { json: false, stats: true }, config: Config { segments: 2, docs: 2, terms: 1024 } }",
     ),
     (
         "save",
@@ -86,11 +86,11 @@ const COMMANDS: [(&str, &str); 27] = [
     ("load", "Load { form: Form { json: false, stats: false } }"),
     (
         "run --json",
-        "Run { overlap: false, form: Form { json: true, stats: false }, config: Config { segments: 12, docs: 4096, terms: 8192 } }",
+        "Run { mode: InOrder, form: Form { json: true, stats: false }, config: Config { segments: 12, docs: 4096, terms: 8192 } }",
     ),
     (
         "run --json --watch --stats",
-        "RunWatches { form: Form { json: true, stats: true }, config: Config { segments: 12, docs: 4096, terms: 8192 } }",
+        "Run { mode: Watch, form: Form { json: true, stats: true }, config: Config { segments: 12, docs: 4096, terms: 8192 } }",
     ),
     (
         "load --json",

@@ -1,21 +1,34 @@
 use Rattle.eb_fields.specs.Dialect.{dialect_of}
-use Rattle.std.proofs.Common.{Bool, sym, subst}
-use Rattle.run_store.specs.Rules.{is_bad}
-use Rattle.run_store.specs.Text.{EndsOf}
-use Rattle.run_index.specs.IndexRules.{rules_of}
-use Rattle.eb_run.specs.Output.{way_of}
+use Rattle.eb_run.specs.declared.command.mode.Mode.TheVariants.{InOrder, Overlap, Workers, Parts, OverlapParts, Watch}
+use Rattle.eb_run.proofs.Modes.{ended}
 use Rattle.eb_run.proofs.dispatch.run_lines.Goals as goal
 
-pub returns-then-overlap-clause-ends : goal.returns-then-overlap-clause-ends
-returns-then-overlap-clause-ends g c =
+pub returns-in-InOrder-clause-ends : goal.returns-in-InOrder-clause-ends
+returns-in-InOrder-clause-ends g c =
     let plan = c.args.plan.now in
-    subst (λ (b : Bool). EndsOf is_bad (way_of b) (rules_of (dialect_of plan.dialect) plan) c.run_beside.result
-    (g.S.Source.left c.args.source.now) (g.S.Source.left c.run_beside.new.source) (g.K.Sink.taken c.args.out.now) (g.K.Sink.taken c.run_beside.new.out))
-    (sym c.if-overlap.true) c.run_beside.ensures.ends
+    ended c.args.mode InOrder (dialect_of plan.dialect) plan.config plan.form _ _ _ _ _ c.in-InOrder.is c.run_in_order.ensures.ends
 
-pub returns-else-overlap-clause-ends : goal.returns-else-overlap-clause-ends
-returns-else-overlap-clause-ends g c =
+pub returns-in-Overlap-clause-ends : goal.returns-in-Overlap-clause-ends
+returns-in-Overlap-clause-ends g c =
     let plan = c.args.plan.now in
-    subst (λ (b : Bool). EndsOf is_bad (way_of b) (rules_of (dialect_of plan.dialect) plan) c.run_in_order.result
-    (g.S.Source.left c.args.source.now) (g.S.Source.left c.run_in_order.new.source) (g.K.Sink.taken c.args.out.now) (g.K.Sink.taken c.run_in_order.new.out))
-    (sym c.if-overlap.false) c.run_in_order.ensures.ends
+    ended c.args.mode Overlap (dialect_of plan.dialect) plan.config plan.form _ _ _ _ _ c.in-Overlap.is c.run_beside.ensures.ends
+
+pub returns-in-Workers-clause-ends : goal.returns-in-Workers-clause-ends
+returns-in-Workers-clause-ends g c =
+    let plan = c.args.plan.now in
+    ended c.args.mode (Workers c.in-Workers.workers) (dialect_of plan.dialect) plan.config plan.form _ _ _ _ _ c.in-Workers.is c.run_workers.ensures.ends
+
+pub returns-in-Parts-clause-ends : goal.returns-in-Parts-clause-ends
+returns-in-Parts-clause-ends g c =
+    let plan = c.args.plan.now in
+    ended c.args.mode (Parts c.in-Parts.parts) (dialect_of plan.dialect) plan.config plan.form _ _ _ _ _ c.in-Parts.is c.run_parts.ensures.ends
+
+pub returns-in-OverlapParts-clause-ends : goal.returns-in-OverlapParts-clause-ends
+returns-in-OverlapParts-clause-ends g c =
+    let plan = c.args.plan.now in
+    ended c.args.mode (OverlapParts c.in-OverlapParts.parts) (dialect_of plan.dialect) plan.config plan.form _ _ _ _ _ c.in-OverlapParts.is c.run_parts-in-OverlapParts.ensures.ends
+
+pub returns-in-Watch-clause-ends : goal.returns-in-Watch-clause-ends
+returns-in-Watch-clause-ends g c =
+    let plan = c.args.plan.now in
+    ended c.args.mode Watch (dialect_of plan.dialect) plan.config plan.form _ _ _ _ _ c.in-Watch.is c.run_watches.ensures.ends

@@ -1,9 +1,5 @@
-use Rattle.std.proofs.Common.{[]}
-use Rattle.run_store.specs.Rules.{is_bad}
-use Rattle.run_store.proofs.OneText.{one_text_of, one_bad}
-use Rattle.run_index.specs.IndexRules.{index_rules}
-use Rattle.eb_io.specs.Lines.{lines_of}
+use Rattle.eb_run.proofs.Modes.{one_output}
 use Rattle.eb_run.proofs.laws.one_text.Goals as goal
 
 pub returns : goal.returns
-returns c = λ how σ form bytes. one_text_of is_bad one_bad (index_rules how σ form []) (lines_of bytes)
+returns c = one_output
