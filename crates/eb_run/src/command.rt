@@ -8,7 +8,7 @@ mod bench;
 pub(crate) mod form;
 mod images;
 mod lines;
-mod mode;
+pub(crate) mod mode;
 
 use crate::fields::take_dialect;
 use bench::read_bench;

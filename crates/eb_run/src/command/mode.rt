@@ -1,5 +1,5 @@
-ghost use Rattle.std.specs.Prelude.{◌≡◌, IfSome};
-ghost use Rattle.eb_run.specs.Command.{mode_by, over_parts, with_workers, HasFew};
+ghost use Rattle.std.specs.Prelude.{◌≡◌, ◌≤◌, IfSome, IsTrue};
+ghost use Rattle.eb_run.specs.Command.{is_few, mode_by, over_parts, with_workers, HasFew};
 
 use eb_base::{Config, MAX_WORDS};
 
@@ -47,12 +47,20 @@ pub(super) fn mode_of(
     }
 }
 
+// Whether there may be this many workers or parts.
+pub(crate) fn are_few(n: u32) -> bool
+    ensures few { result ≡ is_few n }
+    ensures range { IsTrue result → (1 ≤ n) × (n ≤ 16) }
+{
+    1 <= n && n <= MOST
+}
+
 // The mode with this many workers, if that is allowed.
 fn work_with(workers: u32) -> Option<Mode>
     ensures mode { result ≡ with_workers workers }
     ensures few { IfSome result HasFew }
 {
-    if workers < 1 || workers > MOST {
+    if !are_few(workers) {
         return None;
     }
     Some(Mode::Workers(workers))
@@ -63,7 +71,7 @@ fn go_over(parts: u32, overlap: bool, config: Config) -> Option<Mode>
     ensures mode { result ≡ over_parts parts overlap config }
     ensures few { IfSome result HasFew }
 {
-    if parts < 1 || parts > MOST || u64::from(parts) * config.words() > MAX_WORDS {
+    if !are_few(parts) || u64::from(parts) * config.words() > MAX_WORDS {
         return None;
     }
     if overlap {

@@ -6,6 +6,7 @@ ghost use Rattle.eb_run.specs.FeedRequests.{feed_request_view, feed_counting_vie
 
 use crate::command::CommandFault;
 use crate::command::form::read_form;
+use crate::command::mode::are_few;
 use crate::fields::take_dialect;
 use eb_base::{Config, MAX_WORDS};
 use eb_fields::Dialect;
@@ -23,9 +24,6 @@ const FEED_OPTIONS: [&str; 5] = ["workers", "keep", "segments", "docs", "terms"]
 const FEED_VALUES: [&str; 9] = [
     "fields", "words", "id", "text", "workers", "keep", "segments", "docs", "terms",
 ];
-
-// The most workers of a feed.
-const MOST: u32 = 16;
 
 /// How the lines of a feed are processed.
 #[derive(Clone, Copy, Debug, PartialEq, Eq)]
@@ -154,7 +152,7 @@ fn work_with(workers: u32) -> Option<FeedWay>
     ensures way { result ≡ way_with workers }
     ensures workers { IfSome result HasFewWorkers }
 {
-    if workers < 1 || workers > MOST {
+    if !are_few(workers) {
         return None;
     }
     Some(FeedWay::Workers(workers))
