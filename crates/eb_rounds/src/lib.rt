@@ -20,3 +20,4 @@ pub use eb_lines::Refusal;
 pub use input::{Input, Kind};
 pub use rounds::Rounds;
 pub use run_index::Counts;
+pub use setup::Setup;

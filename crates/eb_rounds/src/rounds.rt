@@ -317,9 +317,13 @@ impl Rounds {
         ensures err { OnErr result ((self.new ≡ self.old) × (writer.new ≡ writer.old) × (reader.new ≡ reader.old) × (converter.new ≡ converter.old)) }
     {
         let mut text = Vec::new(alloc);
-        self.step_behind(
-            rt, alloc, index, writer, converter, gate, dialect, form, &mut text,
-        )?;
+        let setup = Setup {
+            index,
+            gate,
+            dialect,
+            form,
+        };
+        self.step_behind(rt, alloc, &setup, writer, converter, &mut text)?;
         reader.meet(index, writer.reader(index));
         Ok(text)
     }
@@ -330,33 +334,29 @@ impl Rounds {
         &mut self,
         rt: &R,
         alloc: Global,
-        index: &Index,
+        setup: &Setup<'_, G>,
         writer: &mut Writer,
         converter: &mut Converter,
-        gate: &G,
-        dialect: Dialect<'_>,
-        form: Form,
         text: &mut Vec<u8>,
     ) -> Result<(), NoMemory>
-        requires writer { writer.old.index ≡ index.now }
-        requires converter { converter.old.index ≡ index.now }
+        requires writer { writer.old.index ≡ setup.now.index.now }
+        requires converter { converter.old.index ≡ setup.now.index.now }
         ensures writer { writer.new.index ≡ writer.old.index }
         ensures converter { converter.new.index ≡ converter.old.index }
         ensures ok { OnOk result ((printed : List ℕ)
-            × WorkedOffBoth (dialect_of dialect.entry) form index.now.setting self.old.ahead self.old.held writer.old.docs writer.new.docs
-            self.old.counts self.new.counts printed
+            × WorkedOffBoth (dialect_of setup.now.dialect) setup.now.form setup.now.index.now.setting self.old.ahead self.old.held
+            writer.old.docs writer.new.docs self.old.counts self.new.counts printed
             × (text.new.items ≡ text.old.items ++ printed)) }
         ensures held { OnOk result ((self.new.ahead ≡ []) × (self.new.held ≡ []) × (self.new.greatest ≡ self.old.greatest)) }
         ensures told { OnOk result (IsPrefix writer.new.docs converter.new.docs) }
-        ensures converted { OnOk result (AreConverted index.now.setting writer.old.docs converter.new.converted) }
+        ensures converted { OnOk result (AreConverted setup.now.index.now.setting writer.old.docs converter.new.converted) }
         ensures grown { converter.old.converted ≤ converter.new.converted }
         ensures err { OnErr result ((self.new ≡ self.old) × (writer.new ≡ writer.old) × (converter.new ≡ converter.old) × (text.new.items ≡ text.old.items)) }
     {
-        let (mut ahead, mut held) = self.prepare(rt, alloc, dialect, text)?;
-        let setup = Setup { index, gate, form };
-        let first = work_tasks(rt, &setup, writer, converter, &mut ahead, text);
-        let then = work_tasks(rt, &setup, writer, converter, &mut held, text);
-        converter.meet(index, writer.reader(index));
+        let (mut ahead, mut held) = self.prepare(rt, alloc, setup.dialect, text)?;
+        let first = work_tasks(rt, setup, writer, converter, &mut ahead, text);
+        let then = work_tasks(rt, setup, writer, converter, &mut held, text);
+        converter.meet(setup.index, writer.reader(setup.index));
         self.close(Counts {
             documents: first.documents + then.documents,
             queries: first.queries + then.queries,

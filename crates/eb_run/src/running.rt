@@ -14,7 +14,7 @@ use eb_base::{Gate, NoMemory};
 use eb_engine::{Converter, Index, Writer};
 use eb_fields::Dialect;
 use eb_lines::{Form, LineKind, Refusal, line_kind};
-use eb_rounds::{Input, Kind, Rounds};
+use eb_rounds::{Input, Kind, Rounds, Setup};
 use run_index::{Counts, SegmentCounts, close};
 use run_store::Plan;
 use std::alloc::Global;
@@ -82,15 +82,18 @@ impl<'a> Running<'a> {
         ensures none { OnOk result (HoldsNone self.new) }
         ensures number { self.new.number ≡ self.old.number }
     {
+        let setup = Setup {
+            index: &self.index,
+            gate,
+            dialect: self.dialect,
+            form: self.form,
+        };
         self.rounds.step_behind(
             rt,
             alloc,
-            &self.index,
+            &setup,
             &mut self.writer,
             &mut self.converter,
-            gate,
-            self.dialect,
-            self.form,
             text,
         )
     }

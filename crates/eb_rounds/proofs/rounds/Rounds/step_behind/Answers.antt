@@ -10,23 +10,25 @@ use Rattle.eb_rounds.proofs.rounds.Rounds.step_behind.Goals as goal
 
 pub work_tasks-first-requires-clause-few : goal.work_tasks-first-requires-clause-few
 work_tasks-first-requires-clause-few g c κs within =
-    let long = tasks_long (dialect_of c.args.dialect) c.args.self.now.ahead c.in_ok-ahead.ahead c.in_ok-ahead.ensures.ahead in
+    let long = tasks_long (dialect_of c.args.setup.now.dialect) c.args.self.now.ahead c.in_ok-ahead.ahead c.in_ok-ahead.ensures.ahead in
     omega (arith, long, c.in_ok-ahead.ensures.few.0)
 
 pub work_tasks-then-requires-clause-few : goal.work_tasks-then-requires-clause-few
 work_tasks-then-requires-clause-few g c κs within =
-    let long = tasks_long (dialect_of c.args.dialect) c.args.self.now.held c.in_ok-ahead.held c.in_ok-ahead.ensures.held in
+    let long = tasks_long (dialect_of c.args.setup.now.dialect) c.args.self.now.held c.in_ok-ahead.held c.in_ok-ahead.ensures.held in
     omega (arith, long, c.in_ok-ahead.ensures.few.1)
 
 pub close-requires : goal.close-requires
 close-requires g c =
-    let ahead = tasks_long (dialect_of c.args.dialect) c.args.self.now.ahead c.in_ok-ahead.ahead c.in_ok-ahead.ensures.ahead in
-    let held = tasks_long (dialect_of c.args.dialect) c.args.self.now.held c.in_ok-ahead.held c.in_ok-ahead.ensures.held in
+    let ahead = tasks_long (dialect_of c.args.setup.now.dialect) c.args.self.now.ahead c.in_ok-ahead.ahead c.in_ok-ahead.ensures.ahead in
+    let held = tasks_long (dialect_of c.args.setup.now.dialect) c.args.self.now.held c.in_ok-ahead.held c.in_ok-ahead.ensures.held in
     omega (arith, ahead, held, c.work_tasks-first.ensures.few, c.work_tasks-then.ensures.few)
 
 pub returns-clause-ok : goal.returns-clause-ok
 returns-clause-ok g c =
     let s = c.args.self.now in
+    let setup = c.args.setup.now in
+    let how = dialect_of setup.dialect in
     let first = c.work_tasks-first in
     let last = c.work_tasks-then in
     let between : Counted = record {
@@ -36,10 +38,10 @@ returns-clause-ok g c =
     } in
     let after = c.close.new.self.counts in
     let counts = ap (λ (x : Standing). x.counts) c.close.ensures in
-    let a = first.ensures.works (dialect_of c.args.dialect) s.ahead c.in_ok-ahead.ensures.ahead s.counts between refl refl refl in
-    let b = last.ensures.works (dialect_of c.args.dialect) s.held c.in_ok-ahead.ensures.held between after (omega (arith, ap (λ (k : Counted). k.documents) counts))
+    let a = first.ensures.works how s.ahead c.in_ok-ahead.ensures.ahead s.counts between refl refl refl in
+    let b = last.ensures.works how s.held c.in_ok-ahead.ensures.held between after (omega (arith, ap (λ (k : Counted). k.documents) counts))
     (omega (arith, ap (λ (k : Counted). k.queries) counts)) (omega (arith, ap (λ (k : Counted). k.refused) counts)) in
-    let W : List Doc → Type 0 = λ docs. WorkedOff (dialect_of c.args.dialect) c.args.form c.args.index.now.setting s.held first.new.writer.docs docs between after b.0 in (
+    let W : List Doc → Type 0 = λ docs. WorkedOff how setup.form setup.index.now.setting s.held first.new.writer.docs docs between after b.0 in (
       a.0 ++ b.0,
       record {
         docs_between = first.new.writer.docs;
@@ -55,5 +57,5 @@ returns-clause-ok g c =
 
 pub returns-clause-converted : goal.returns-clause-converted
 returns-clause-converted g c =
-    converted_among c.args.index.now.setting c.args.writer.now.docs c.work_tasks-first.new.converter.converted c.meet.new.self.converted c.work_tasks-first.ensures.converted
+    converted_among c.args.setup.now.index.now.setting c.args.writer.now.docs c.work_tasks-first.new.converter.converted c.meet.new.self.converted c.work_tasks-first.ensures.converted
     (omega (arith, c.work_tasks-then.ensures.grown, c.meet.ensures.converted))
