@@ -24,6 +24,13 @@ const SIZE: u64 = 6;
 
 const WORKERS: u32 = 3;
 
+// The documents that are added, and what is asked after each.
+#[derive(Clone, Copy)]
+struct Trial<'a> {
+    documents: &'a [Document],
+    query: &'a Query,
+}
+
 // Adds a document.
 fn add(feed: &mut FeedWriter, document: &Document) -> Result<(), Fail>
     requires taken { (history : List Doc) × HasTaken feed.old history }
@@ -95,14 +102,14 @@ fn ask_all<R: Wait>(
 }
 
 // Whether an answer is right, where this many documents and one were added before it was asked.
-fn is_right(alloc: Global, query: &Query, documents: &[Document], answer: Answer) -> bool {
+fn is_right(alloc: Global, trial: &Trial<'_>, answer: Answer) -> bool {
     let (number, told, seen) = (answer.number(), answer.told(), answer.seen());
     let (frame, reader) = answer.finish();
     let from = first_held(reader.turns(), reader.held(), SIZE);
     told == number.saturating_add(1)
         && told <= seen
         && reader.turns() == (number / SIZE).saturating_add(1)
-        && is_scanned(alloc, query, documents, from, seen, frame.ids())
+        && is_scanned(alloc, trial.query, trial.documents, from, seen, frame.ids())
 }
 
 // Waits for the answers, and counts those that are right.
@@ -111,17 +118,16 @@ fn wait_all<R: Wait>(
     alloc: Global,
     desk: &Desk,
     clerk: &mut Clerk,
-    query: &Query,
-    documents: &[Document],
+    trial: &Trial<'_>,
 ) -> usize
     requires queues { clerk.old.queues ≡ desk.now.queues }
     requires open { clerk.old.stops ≡ 0 }
     ensures { clerk.new.queues ≡ desk.now.queues }
 {
     let mut right = 0usize;
-    for _ in 0..documents.len() {
+    for _ in 0..trial.documents.len() {
         let answer = clerk.wait(rt, desk, &(), &OpenGate);
-        if is_right(alloc, query, documents, answer) {
+        if is_right(alloc, trial, answer) {
             right = right.saturating_add(1);
         }
     }
@@ -135,8 +141,7 @@ fn serve<R: Wait>(
     desk: &Desk,
     clerk: Clerk,
     feed: FeedWriter,
-    query: &Query,
-    documents: &[Document],
+    trial: &Trial<'_>,
 ) -> Result<usize, Fail>
     requires taken { (history : List Doc) × HasTaken feed history }
     requires open { IsOpen desk.now.queues (feed_name feed) clerk }
@@ -144,9 +149,9 @@ fn serve<R: Wait>(
 {
     let mut clerk = clerk;
     let mut feed = feed;
-    let asked = ask_all(rt, alloc, desk, &mut clerk, &mut feed, documents);
+    let asked = ask_all(rt, alloc, desk, &mut clerk, &mut feed, trial.documents);
     let right = if asked.is_ok() {
-        wait_all(rt, alloc, desk, &mut clerk, query, documents)
+        wait_all(rt, alloc, desk, &mut clerk, trial)
     } else {
         0
     };
@@ -171,8 +176,7 @@ fn serve_beside<R: Threads + Wait + Sync>(
     workers: Vec<Worker>,
     clerk: Clerk,
     feed: FeedWriter,
-    query: &Query,
-    documents: &[Document],
+    trial: &Trial<'_>,
 ) -> Result<usize, Fail>
     requires workers { All (λ w. IsWorkerOf desk.now.queues w) workers.items }
     requires taken { (history : List Doc) × HasTaken feed history }
@@ -186,7 +190,7 @@ fn serve_beside<R: Threads + Wait + Sync>(
         { work(rt, desk, workers) },
         move || -> Result<usize, Fail>
             requires { ((history : List Doc) × HasTaken feed history) × IsOpen desk.now.queues (feed_name feed) clerk × (clerk.put ≡ []) }
-        { serve(rt, alloc, desk, clerk, feed, query, documents) },
+        { serve(rt, alloc, desk, clerk, feed, trial) },
     );
     right
 }
@@ -202,16 +206,11 @@ fn workers_answer_beside_a_clerk(rt: HostRuntime) -> Result<(), Fail> {
     let Ok((desk, clerk, workers)) = Desk::open(alloc, &feed, WORKERS) else {
         return Err(Fail::new("no memory"));
     };
-    let right = serve_beside(
-        &rt,
-        alloc,
-        &desk,
-        workers,
-        clerk,
-        feed,
-        &query,
-        documents.as_slice(),
-    )?;
+    let trial = Trial {
+        documents: documents.as_slice(),
+        query: &query,
+    };
+    let right = serve_beside(&rt, alloc, &desk, workers, clerk, feed, &trial)?;
     assert_eq!(rt; right, 60);
     Ok(())
 }

@@ -11,18 +11,22 @@ use std::test::Fail;
 use std::thread;
 use std::thread::Threads;
 
-// Searches until all documents are seen: whether each answer was right, and none over fewer
-// documents than before.
-fn search_beside(
-    alloc: Global,
-    index: &Index,
+// A reader, and what it asks.
+#[derive(Drop)]
+struct Asker {
     reader: Reader,
     question: Question,
-    documents: &[Document],
-) -> bool
-    requires { reader.index ≡ index.now }
+}
+
+// Searches until all documents are seen: whether each answer was right, and none over fewer
+// documents than before.
+fn search_beside(alloc: Global, index: &Index, asker: Asker, documents: &[Document]) -> bool
+    requires { asker.reader.index ≡ index.now }
 {
-    let mut reader = reader;
+    let Asker {
+        mut reader,
+        question,
+    } = asker;
     let Question { query, mut frame } = question;
     let mut last = 0;
     for _ in 0..u64::MAX {
@@ -74,12 +78,11 @@ fn write_and_search<R: Threads + Sync>(
     alloc: Global,
     index: &Index,
     writer: Writer,
-    reader: Reader,
-    question: Question,
+    asker: Asker,
     documents: &[Document],
 ) -> (u64, bool)
     requires writer { writer.index ≡ index.now }
-    requires reader { reader.index ≡ index.now }
+    requires reader { asker.reader.index ≡ index.now }
 {
     thread::join(
         rt,
@@ -87,8 +90,8 @@ fn write_and_search<R: Threads + Sync>(
             requires { writer.index ≡ index.now }
         { add_beside(index, writer, documents) },
         move || -> bool
-            requires { reader.index ≡ index.now }
-        { search_beside(alloc, index, reader, question, documents) },
+            requires { asker.reader.index ≡ index.now }
+        { search_beside(alloc, index, asker, documents) },
     )
 }
 
@@ -98,12 +101,11 @@ fn convert_and_search<R: Threads + Sync>(
     alloc: Global,
     index: &Index,
     converter: Converter,
-    reader: Reader,
-    question: Question,
+    asker: Asker,
     documents: &[Document],
 ) -> (u32, bool)
     requires converter { converter.index ≡ index.now }
-    requires reader { reader.index ≡ index.now }
+    requires reader { asker.reader.index ≡ index.now }
 {
     thread::join(
         rt,
@@ -111,40 +113,36 @@ fn convert_and_search<R: Threads + Sync>(
             requires { converter.index ≡ index.now }
         { convert_beside(index, converter, 3) },
         move || -> bool
-            requires { reader.index ≡ index.now }
-        { search_beside(alloc, index, reader, question, documents) },
+            requires { asker.reader.index ≡ index.now }
+        { search_beside(alloc, index, asker, documents) },
     )
 }
 
-// A writer, a converter and two readers, which ask the queries of two numbers, each on a thread of
-// its own.
+// A writer, a converter and two readers, each on a thread of its own.
 fn all_beside<R: Threads + Sync>(
     rt: &R,
     alloc: Global,
     index: &Index,
     writer: Writer,
     converter: Converter,
-    readers: (Reader, Reader),
-    numbers: (u32, u32),
+    askers: (Asker, Asker),
     documents: &[Document],
-) -> Result<((u64, bool), (u32, bool)), Fail>
+) -> ((u64, bool), (u32, bool))
     requires writer { writer.index ≡ index.now }
     requires converter { converter.index ≡ index.now }
-    requires first { readers.0.index ≡ index.now }
-    requires second { readers.1.index ≡ index.now }
+    requires first { askers.0.reader.index ≡ index.now }
+    requires second { askers.1.reader.index ≡ index.now }
 {
-    let (first, second) = readers;
-    let all = question_of(alloc, numbers.0)?;
-    let some = question_of(alloc, numbers.1)?;
-    Ok(thread::join(
+    let (first, second) = askers;
+    thread::join(
         rt,
         move || -> (u64, bool)
-            requires { (writer.index ≡ index.now) × (first.index ≡ index.now) }
-        { write_and_search(rt, alloc, index, writer, first, all, documents) },
+            requires { (writer.index ≡ index.now) × (first.reader.index ≡ index.now) }
+        { write_and_search(rt, alloc, index, writer, first, documents) },
         move || -> (u32, bool)
-            requires { (converter.index ≡ index.now) × (second.index ≡ index.now) }
-        { convert_and_search(rt, alloc, index, converter, second, some, documents) },
-    ))
+            requires { (converter.index ≡ index.now) × (second.reader.index ≡ index.now) }
+        { convert_and_search(rt, alloc, index, converter, second, documents) },
+    )
 }
 
 #[test]
@@ -155,17 +153,23 @@ fn readers_search_beside_a_writer_and_a_converter(rt: HostRuntime) -> Result<(),
         let (index, mut writer, converter) = Index::open(alloc, Config::new(4, 100, 1024)?)?;
         let mut reader = writer.reader(&index);
         let other = reader.split(&index);
-        let readers = (reader, other);
+        let first = Asker {
+            reader,
+            question: question_of(alloc, numbers.0)?,
+        };
+        let second = Asker {
+            reader: other,
+            question: question_of(alloc, numbers.1)?,
+        };
         let done = all_beside(
             &rt,
             alloc,
             &index,
             writer,
             converter,
-            readers,
-            numbers,
+            (first, second),
             documents.as_slice(),
-        )?;
+        );
         assert_eq!(rt; done, ((390, true), (3, true)));
     }
     Ok(())
