@@ -25,9 +25,9 @@ use eb_fields::Dialect;
 use eb_io::{Sink, Source, write_all};
 use eb_lines::{Refusal, Status};
 use fed::Fed;
-use feed_with_workers::run_feed_workers;
+use feed_with_workers::{FeedPlan, run_feed_workers};
 use run_ahead::{Other, answer_lines_ahead, place_each};
-use run_store::{Plan, answer_lines};
+use run_store::answer_lines;
 use run_with_watches::answer_watched;
 use std::alloc::Global;
 use std::sync::Wait;
@@ -106,12 +106,13 @@ fn run_words<R: Threads + Wait + Sync, S: Source, K: Sink, G: Gate + Sync>(
     };
     let FeedRequest { command, dialect } = request;
     if let FeedWay::Workers(workers) = command.way {
-        let plan = Plan {
+        let plan = FeedPlan {
             dialect,
             form: command.form,
             config: command.config,
+            keep: command.keep,
         };
-        return run_feed_workers(rt, alloc, workers, &plan, command.keep, source, out, gate);
+        return run_feed_workers(rt, alloc, workers, &plan, source, out, gate);
     }
     run_lines(rt, alloc, dialect, command, source, out, gate)
 }

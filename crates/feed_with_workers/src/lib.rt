@@ -5,7 +5,9 @@
 
 mod feed_office;
 mod laws;
+mod plan;
 mod run;
 
 pub use laws::none_is_full;
+pub use plan::FeedPlan;
 pub use run::run_feed_workers;

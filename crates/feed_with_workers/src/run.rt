@@ -10,40 +10,49 @@ ghost use Rattle.feed_with_workers.specs.Offices.{IsNewSide};
 ghost use Rattle.eb_io.specs.Faults.{HasRisen};
 
 use crate::feed_office::{FeedOffice, Side};
+use crate::plan::FeedPlan;
 use eb_base::Gate;
 use eb_io::{Sink, Source};
 use eb_lines::Status;
-use feed_serve::{Clerk, Desk, Worker, work_all};
+use feed_serve::{Clerk, Desk, work_all};
 use feed_shared::FeedWriter;
-use run_store::Plan;
 use run_with_workers::serve_lines;
 use std::alloc::Global;
 use std::sync::Wait;
 use std::thread::{Threads, join_mut};
+
+// What a run serves with: the desk, how its lines are gone over, and how many workers there are.
+#[derive(Clone, Copy)]
+struct Service<'a> {
+    desk: &'a Desk,
+    plan: &'a FeedPlan<'a>,
+    workers: u32,
+}
 
 // The clerk's part, which begins with a new clerk and an empty feed. In it one stop is put for each worker, after a fault
 // and where memory runs out.
 fn serve<R: Threads + Wait + Sync, S: Source, K: Sink, G: Gate + Sync>(
     rt: &R,
     alloc: Global,
-    desk: &Desk,
-    gate: &G,
+    service: &Service<'_>,
     side: &mut Option<Side>,
-    plan: &Plan<'_>,
-    keep: u32,
     source: &mut S,
     out: &mut K,
-    workers: u32,
+    gate: &G,
 ) -> (Status, Clerk)
-    requires { IsNewSide desk.now.queues plan.now.config keep side.old }
-    ensures stops { result.1.stops ≡ workers }
-    ensures ends { EndsOf is_bad at_least (workers_rules (dialect_of plan.entry.now.dialect) plan.entry.now.config keep plan.entry.now.form) result.0
+    requires { IsNewSide service.now.desk.now.queues service.now.plan.now.config service.now.plan.now.keep side.old }
+    ensures stops { result.1.stops ≡ service.now.workers }
+    ensures ends { EndsOf is_bad at_least (workers_rules (dialect_of service.now.plan.now.dialect) service.now.plan.now.config
+        service.now.plan.now.keep service.now.plan.now.form) result.0
         (S.left source.old) (S.left source.new) (K.taken out.old) (K.taken out.new) }
     ensures read_fault { result.0 ≡ Status.ReadFault → HasRisen (S.faults source.old) (S.faults source.new) }
     ensures write_fault { result.0 ≡ Status.WriteFault → HasRisen (K.faults out.old) (K.faults out.new) }
 {
-    // The contract alone reads this.
-    let _ = keep;
+    let Service {
+        desk,
+        plan,
+        workers,
+    } = *service;
     let Some(Side { clerk, feed }) = side.take() else {
         unreachable!();
     };
@@ -55,65 +64,6 @@ fn serve<R: Threads + Wait + Sync, S: Source, K: Sink, G: Gate + Sync>(
     };
     let (status, office) = serve_lines(rt, alloc, office, plan.dialect, source, out, gate);
     (status, office.stop(rt, workers))
-}
-
-// Lets the workers work beside the clerk's part, which is called once.
-fn work_beside<R: Threads + Wait + Sync, G: Gate + Sync, C: FnMut() -> (Status, Clerk)>(
-    rt: &R,
-    desk: &Desk,
-    gate: &G,
-    workers: &mut [Worker],
-    clerk: &mut C,
-) -> (Status, Clerk)
-    requires workers { All (λ w. IsWorkerOf desk.now.queues w) workers.old }
-    requires clerk { C.pre clerk.old }
-    ensures { C.step clerk.old result clerk.new }
-{
-    let (_, answered) = join_mut(
-        rt,
-        &mut ||
-            requires { All (λ w. IsWorkerOf desk.now.queues w) workers.now }
-        { work_all(rt, desk, &(), gate, workers) },
-        clerk,
-    );
-    answered
-}
-
-// The clerk's part beside the workers'.
-fn serve_beside<R: Threads + Wait + Sync, S: Source, K: Sink, G: Gate + Sync>(
-    rt: &R,
-    alloc: Global,
-    desk: &Desk,
-    gate: &G,
-    workers: &mut [Worker],
-    side: &mut Option<Side>,
-    plan: &Plan<'_>,
-    keep: u32,
-    source: &mut S,
-    out: &mut K,
-    count: u32,
-) -> Status
-    requires workers { All (λ w. IsWorkerOf desk.now.queues w) workers.old }
-    requires side { IsNewSide desk.now.queues plan.now.config keep side.old }
-    ensures ends { EndsOf is_bad at_least (workers_rules (dialect_of plan.entry.now.dialect) plan.entry.now.config keep plan.entry.now.form) result
-        (S.left source.old) (S.left source.new) (K.taken out.old) (K.taken out.new) }
-    ensures read_fault { result ≡ Status.ReadFault → HasRisen (S.faults source.old) (S.faults source.new) }
-    ensures write_fault { result ≡ Status.WriteFault → HasRisen (K.faults out.old) (K.faults out.new) }
-{
-    let (status, _) = work_beside(
-        rt,
-        desk,
-        gate,
-        workers,
-        &mut ||
-            requires { IsNewSide desk.now.queues plan.now.config keep side.now }
-            ensures ends { EndsOf is_bad at_least (workers_rules (dialect_of plan.entry.now.dialect) plan.entry.now.config keep plan.entry.now.form) result.0
-                (S.left source.entry.now) (S.left source.exit.now) (K.taken out.entry.now) (K.taken out.exit.now) }
-            ensures read_fault { result.0 ≡ Status.ReadFault → HasRisen (S.faults source.entry.now) (S.faults source.exit.now) }
-            ensures write_fault { result.0 ≡ Status.WriteFault → HasRisen (K.faults out.entry.now) (K.faults out.exit.now) }
-        { serve(rt, alloc, desk, gate, side, plan, keep, source, out, count) },
-    );
-    status
 }
 
 /// Runs over the lines that the source gives, with 1 to 16 workers that live for the whole run and answer
@@ -130,8 +80,7 @@ pub fn run_feed_workers<R, S, K, G>(
     rt: &R,
     alloc: Global,
     workers: u32,
-    plan: &Plan<'_>,
-    keep: u32,
+    plan: &FeedPlan<'_>,
     source: &mut S,
     out: &mut K,
     gate: &G,
@@ -142,30 +91,39 @@ where
     K: Sink,
     G: Gate + Sync,
     requires workers { (1 ≤ workers) × (workers ≤ 16) }
-    requires keep { (2 ≤ keep) × (keep ≤ 64) }
-    ensures ends { EndsOf is_bad at_least (workers_rules (dialect_of plan.entry.now.dialect) plan.entry.now.config keep plan.entry.now.form) result
+    requires keep { (2 ≤ plan.now.keep) × (plan.now.keep ≤ 64) }
+    ensures ends { EndsOf is_bad at_least
+        (workers_rules (dialect_of plan.entry.now.dialect) plan.entry.now.config plan.entry.now.keep plan.entry.now.form) result
         (S.left source.old) (S.left source.new) (K.taken out.old) (K.taken out.new) }
     ensures read_fault { result ≡ Status.ReadFault → HasRisen (S.faults source.old) (S.faults source.new) }
     ensures write_fault { result ≡ Status.WriteFault → HasRisen (K.faults out.old) (K.faults out.new) }
 {
-    let Ok(feed) = FeedWriter::open(alloc, plan.config, keep) else {
+    let Ok(feed) = FeedWriter::open(alloc, plan.config, plan.keep) else {
         return Status::NoMemory;
     };
     let Ok((desk, clerk, mut all)) = Desk::open(alloc, &feed, workers) else {
         return Status::NoMemory;
     };
     let mut side = Some(Side { clerk, feed });
-    serve_beside(
-        rt,
-        alloc,
-        &desk,
-        gate,
-        all.as_mut_slice(),
-        &mut side,
+    let service = Service {
+        desk: &desk,
         plan,
-        keep,
-        source,
-        out,
         workers,
-    )
+    };
+    let all = all.as_mut_slice();
+    let (_, (status, _)) = join_mut(
+        rt,
+        &mut ||
+            requires { All (λ w. IsWorkerOf desk.queues w) all.now }
+        { work_all(rt, &desk, &(), gate, all) },
+        &mut ||
+            requires { IsNewSide service.desk.now.queues service.plan.now.config service.plan.now.keep side }
+            ensures ends { EndsOf is_bad at_least (workers_rules (dialect_of service.entry.plan.now.dialect) service.entry.plan.now.config
+                service.entry.plan.now.keep service.entry.plan.now.form) result.0
+                (S.left source.entry.now) (S.left source.exit.now) (K.taken out.entry.now) (K.taken out.exit.now) }
+            ensures read_fault { result.0 ≡ Status.ReadFault → HasRisen (S.faults source.entry.now) (S.faults source.exit.now) }
+            ensures write_fault { result.0 ≡ Status.WriteFault → HasRisen (K.faults out.entry.now) (K.faults out.exit.now) }
+        { serve(rt, alloc, &service, &mut side, source, out, gate) },
+    );
+    status
 }
