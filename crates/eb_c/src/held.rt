@@ -15,14 +15,12 @@ use eb_base::{Document, OpenGate};
 use eb_count::Tally;
 use eb_cursor::Frame;
 use eb_engine::{Converter, Index as Shared, Reader, Writer};
-use eb_place::Steps;
 use eb_watch::Watches;
 use eb_writer::Full;
 use feed_shared::{FeedConverter, Released, Spare};
 use std::alloc::Global;
 use std::marker::{Brand, Model};
 use std::sync::Arc;
-use std::sync::ledger::{Blank, Ledger};
 
 /// The writer of a shared index. It has an allocation of its own, so that what a handle leads to is
 /// small.
@@ -200,20 +198,7 @@ impl HeldReader {
         ensures count { result ≡ length self.new.docs }
         ensures ids { ids_of frame.new ≡ answer_of (query_of frame.old) (k_of frame.old) self.new.docs }
     {
-        self.search_in::<Brand>(frame, Blank::new(1))
-    }
-
-    // Searches with a counter of loads that nobody reads.
-    fn search_in<L: Ledger>(&mut self, frame: &mut Frame, blank: Blank) -> u64
-        requires blank { (blank.name ≡ L.name) × (blank.parts ≡ L.parts) × (0 < blank.parts) }
-        ensures index { self.new.index ≡ self.old.index }
-        ensures known { IsPrefix self.old.docs self.new.docs }
-        ensures count { result ≡ length self.new.docs }
-        ensures ids { ids_of frame.new ≡ answer_of (query_of frame.old) (k_of frame.old) self.new.docs }
-    {
-        let mut steps = Steps::<L>::new(blank);
-        self.reader
-            .search(&self.index, frame, &OpenGate, &mut steps)
+        self.reader.search_unmetered(&self.index, frame, &OpenGate)
     }
 
     // Counts, in the tally, all matches among the documents that are accepted, and returns their
@@ -224,19 +209,7 @@ impl HeldReader {
         ensures count { result ≡ length self.new.docs }
         ensures counts { HasCounted (query_of frame.old) self.new.docs tally.old tally.new }
     {
-        self.count_in::<Brand>(frame, tally, Blank::new(1))
-    }
-
-    // Counts with a counter of loads that nobody reads.
-    fn count_in<L: Ledger>(&mut self, frame: &mut Frame, tally: &mut Tally, blank: Blank) -> u64
-        requires blank { (blank.name ≡ L.name) × (blank.parts ≡ L.parts) × (0 < blank.parts) }
-        ensures index { self.new.index ≡ self.old.index }
-        ensures known { IsPrefix self.old.docs self.new.docs }
-        ensures count { result ≡ length self.new.docs }
-        ensures counts { HasCounted (query_of frame.old) self.new.docs tally.old tally.new }
-    {
-        let mut steps = Steps::<L>::new(blank);
         self.reader
-            .count(&self.index, frame, tally, &OpenGate, &mut steps)
+            .count_unmetered(&self.index, frame, tally, &OpenGate)
     }
 }

@@ -11,11 +11,9 @@ ghost use Rattle.eb_c.specs.Streaming.{Takes, Hears, Learns};
 use eb_base::{Config, Document, NoMemory, OpenGate};
 use eb_count::Tally;
 use eb_cursor::Frame;
-use eb_place::Steps;
 use feed_shared::{FeedConverter, FeedWriter, Follower, Leader, Released, Spare};
 use std::alloc::Global;
 use std::marker::{Brand, Model};
-use std::sync::ledger::{Blank, Ledger};
 
 /// The leader of a feed. It has an allocation of its own, so that what a handle leads to is small.
 #[derive(Drop)]
@@ -171,19 +169,8 @@ impl HeldFollower {
         ensures count { result ≡ counted (history_of self.new.log self.new.docs) }
         ensures ids { ids_of frame.new ≡ answer_of (query_of frame.old) (k_of frame.old) (stretch_of self.new.held self.new.log self.new.docs) }
     {
-        self.search_in::<Brand>(frame, Blank::new(1))
-    }
-
-    // Searches with a counter of loads that nobody reads.
-    fn search_in<L: Ledger>(&mut self, frame: &mut Frame, blank: Blank) -> u64
-        requires blank { (blank.name ≡ L.name) × (blank.parts ≡ L.parts) × (0 < blank.parts) }
-        ensures learned { (g : FeedToken) × Hears self.old g × Learns g self.new }
-        ensures count { result ≡ counted (history_of self.new.log self.new.docs) }
-        ensures ids { ids_of frame.new ≡ answer_of (query_of frame.old) (k_of frame.old) (stretch_of self.new.held self.new.log self.new.docs) }
-    {
-        let mut steps = Steps::<L>::new(blank);
         let _met = self.follower.hear();
-        self.seen = self.follower.search(frame, &OpenGate, &mut steps);
+        self.seen = self.follower.search_unmetered(frame, &OpenGate);
         self.seen
     }
 
@@ -194,19 +181,8 @@ impl HeldFollower {
         ensures count { result ≡ counted (history_of self.new.log self.new.docs) }
         ensures counts { HasCounted (query_of frame.old) (stretch_of self.new.held self.new.log self.new.docs) tally.old tally.new }
     {
-        self.count_in::<Brand>(frame, tally, Blank::new(1))
-    }
-
-    // Counts with a counter of loads that nobody reads.
-    fn count_in<L: Ledger>(&mut self, frame: &mut Frame, tally: &mut Tally, blank: Blank) -> u64
-        requires blank { (blank.name ≡ L.name) × (blank.parts ≡ L.parts) × (0 < blank.parts) }
-        ensures learned { (g : FeedToken) × Hears self.old g × Learns g self.new }
-        ensures count { result ≡ counted (history_of self.new.log self.new.docs) }
-        ensures counts { HasCounted (query_of frame.old) (stretch_of self.new.held self.new.log self.new.docs) tally.old tally.new }
-    {
-        let mut steps = Steps::<L>::new(blank);
         let _met = self.follower.hear();
-        self.seen = self.follower.count(frame, tally, &OpenGate, &mut steps);
+        self.seen = self.follower.count_unmetered(frame, tally, &OpenGate);
         self.seen
     }
 }

@@ -19,11 +19,8 @@ use crate::reading::{document_as, document_in_line_as, parsed_in_text_as};
 use crate::refusal::Refusal;
 use crate::told::Told;
 use eb_base::{Document, NoMemory};
-use eb_place::Steps;
 use eb_watch::{NoWatch, SetFault, Watches};
 use std::alloc::Global;
-use std::marker::Brand;
-use std::sync::ledger::{Blank, Ledger};
 
 /// Makes a set of watches, in which none is set; its handle is closed before: 0; else `NoMemory`
 /// (12), or 16 where the handle isn't closed, and it is as before.
@@ -248,7 +245,7 @@ fn tell_held(
         return BAD_HANDLE;
     };
     match read {
-        Ok(document) => match told_of::<Brand>(alloc, watches, &document, Blank::new(1)) {
+        Ok(document) => match watches.told_unmetered(alloc, &document) {
             Ok(found) => {
                 put_numbers(&found, numbers, told);
                 0
@@ -267,20 +264,6 @@ fn nothing_told() -> Told
         count: 0,
         written: 0,
     }
-}
-
-// The numbers of the watches that match a document.
-fn told_of<L: Ledger>(
-    alloc: Global,
-    watches: &Watches,
-    document: &Document,
-    blank: Blank,
-) -> Result<Vec<u32>, NoMemory>
-    requires blank { (blank.name ≡ L.name) × (blank.parts ≡ L.parts) × (0 < blank.parts) }
-    ensures { IfOk result (λ numbers. numbers.items ≡ numbers_of (matching (watches_of watches.now) document.now)) }
-{
-    let mut tests = Steps::<L>::new(blank);
-    watches.told(alloc, document, &mut tests)
 }
 
 // Writes the first of the numbers, as many as there is room for, and says how many there are.

@@ -12,6 +12,7 @@ mod calls;
 mod converter;
 mod index;
 mod reader;
+mod unmetered;
 mod writer;
 
 pub use converter::Converter;

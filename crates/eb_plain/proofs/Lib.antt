@@ -1,4 +1,2 @@
-pub mod Parts
-pub mod Windows
 pub mod Recounts
 pub mod HistoryCuts

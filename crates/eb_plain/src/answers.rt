@@ -2,8 +2,8 @@ ghost use Rattle.std.specs.Prelude.{◌≡◌, IfOk};
 ghost use Rattle.eb_base.specs.Query.{tree};
 ghost use Rattle.eb_base.specs.Match.{answer};
 
-use crate::scan::is_match;
 use eb_base::{Document, NoMemory, Query};
+use eb_match::is_match;
 use std::alloc::Global;
 
 /// The answer: the ids of the newest `k` of these documents that the query matches, newest first.

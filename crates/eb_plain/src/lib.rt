@@ -1,14 +1,12 @@
 //! The definitions as plain, slow programs. Each body walks lists and has a definition as its whole
-//! contract: which documents match, what the answer is, which document fits and how a history is
-//! cut. Tests compare the index with them.
+//! contract: what the answer is, which document fits and how a history is cut. Tests compare the
+//! index with them.
 #![tactic(auto)]
 
 mod answers;
 mod history;
 mod room;
-mod scan;
 
 pub use answers::newest;
 pub use history::{cut, has_room};
 pub use room::fits;
-pub use scan::is_match;

@@ -5,8 +5,8 @@ ghost use Rattle.eb_place.specs.Room.{all_slices};
 ghost use Rattle.eb_place.specs.Room as spec;
 ghost use Rattle.eb_plain.specs.TermRoom.{holds_terms};
 
-use crate::scan::has_term;
 use eb_base::{Config, Document, NoMemory, Term, Terms};
+use eb_match::has_term;
 use std::alloc::Global;
 
 /// Whether a document fits a segment of this setting after its documents, by counting all of them

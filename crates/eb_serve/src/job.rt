@@ -7,9 +7,6 @@ ghost use Rattle.eb_cursor.specs.Frames.{query_of, k_of, ids_of};
 use eb_base::Gate;
 use eb_cursor::Frame;
 use eb_engine::{Index, Reader};
-use eb_place::Steps;
-use std::marker::Brand;
-use std::sync::ledger::{Blank, Ledger};
 
 /// A query that waits for its answer: a number, a frame with the query, and a reader of its own. It
 /// keeps how many documents its reader had seen when it was made.
@@ -32,26 +29,6 @@ pub struct Answer {
     reader: Reader,
     ghost knows: { told ≤ length reader.docs },
     ghost found: { ids_of frame ≡ answer (query_of frame) (k_of frame) reader.docs },
-}
-
-// Searches with a counter of loads that nobody reads.
-fn search_with<G: Gate, L: Ledger>(
-    reader: &mut Reader,
-    index: &Index,
-    frame: &mut Frame,
-    gate: &G,
-    blank: Blank,
-)
-    requires blank { (blank.name ≡ L.name) × (blank.parts ≡ L.parts) × (0 < blank.parts) }
-    requires made { reader.old.index ≡ index.now }
-    ensures index { reader.new.index ≡ reader.old.index }
-    ensures known { IsPrefix reader.old.docs reader.new.docs }
-    ensures query { query_of frame.new ≡ query_of frame.old }
-    ensures k { k_of frame.new ≡ k_of frame.old }
-    ensures ids { ids_of frame.new ≡ answer (query_of frame.old) (k_of frame.old) reader.new.docs }
-{
-    let mut steps = Steps::<L>::new(blank);
-    reader.search(index, frame, gate, &mut steps);
 }
 
 impl Job {
@@ -103,7 +80,7 @@ impl eb_desk::Job for Job {
             mut frame,
             mut reader,
         } = self;
-        search_with::<G, Brand>(&mut reader, with, &mut frame, gate, Blank::new(1));
+        reader.search_unmetered(with, &mut frame, gate);
         Answer {
             number,
             told,

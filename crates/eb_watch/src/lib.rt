@@ -12,6 +12,7 @@ mod key;
 mod laws;
 mod matching;
 mod message;
+mod unmetered;
 mod watch;
 mod watches;
 

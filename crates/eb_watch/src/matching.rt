@@ -9,8 +9,8 @@ ghost use Rattle.eb_watch.specs.Message.{AreNumbered};
 use crate::ends::{is_near, put_first, put_next};
 use crate::message::Message;
 use eb_base::{Document, Queries, Query, Term};
+use eb_match::is_match;
 use eb_place::Steps;
-use eb_plain::is_match;
 use std::sync::ledger::Ledger;
 
 /// Whether the query matches the document: a word where it is one of the document's terms, a phrase

@@ -13,11 +13,8 @@ ghost use Rattle.eb_cursor.specs.Frames.{query_of, k_of, ids_of};
 use eb_base::{Config, Document, NoMemory, OpenGate, Query, Term};
 use eb_cursor::Frame;
 use eb_engine::{Index, Reader, Writer};
-use eb_place::Steps;
 use eb_text::tokens;
 use std::alloc::Global;
-use std::marker::Brand;
-use std::sync::ledger::{Blank, Ledger};
 use std::thread::Threads;
 use std::{io, thread};
 
@@ -81,27 +78,6 @@ fn add_all(index: &Index, writer: Writer, messages: &[Document]) -> Writer
     writer
 }
 
-// One search. Its result is how many documents it saw: the first ones of the history, all that the
-// reader knew among them. The ids are those of exactly the newest of these that match. `steps`
-// counts the loads of words.
-fn search_once<L: Ledger>(
-    index: &Index,
-    reader: &mut Reader,
-    frame: &mut Frame,
-    blank: Blank,
-) -> u64
-    requires blank { (blank.name ≡ L.name) × (blank.parts ≡ L.parts) × (0 < blank.parts) }
-    requires made { reader.old.index ≡ index.now }
-    ensures index { reader.new.index ≡ reader.old.index }
-    ensures known { IsPrefix reader.old.docs reader.new.docs }
-    ensures count { result ≡ length reader.new.docs }
-    ensures query { (query_of frame.new ≡ query_of frame.old) × (k_of frame.new ≡ k_of frame.old) }
-    ensures ids { ids_of frame.new ≡ answer (query_of frame.old) (k_of frame.old) reader.new.docs }
-{
-    let mut steps = Steps::<L>::new(blank);
-    reader.search(index, frame, &OpenGate, &mut steps)
-}
-
 // Searches until it sees this many documents. Then the frame holds the answer over all that the
 // reader knows.
 fn search_until(index: &Index, reader: Reader, frame: Frame, documents: u64) -> (Reader, Frame)
@@ -112,7 +88,9 @@ fn search_until(index: &Index, reader: Reader, frame: Frame, documents: u64) -> 
     let mut reader = reader;
     let mut frame = frame;
     for _ in 0..u64::MAX {
-        let seen = search_once::<Brand>(index, &mut reader, &mut frame, Blank::new(1));
+        // Its result is how many documents it saw: the first ones of the history, all that the
+        // reader knew among them. The ids are those of exactly the newest of these that match.
+        let seen = reader.search_unmetered(index, &mut frame, &OpenGate);
         if seen >= documents {
             return (reader, frame);
         }

@@ -8,10 +8,7 @@ ghost use Rattle.feed_shared.specs.Turns.{history_of, stretch_of, counted, HasTa
 
 use eb_base::{Gate, NoMemory};
 use eb_cursor::Frame;
-use eb_place::Steps;
 use feed_shared::{FeedReader, FeedWriter};
-use std::marker::Brand;
-use std::sync::ledger::{Blank, Ledger};
 
 /// A query that waits for its answer: a number, a frame with the query, and a reader of its own. It
 /// keeps how many documents its reader knows of.
@@ -37,30 +34,6 @@ pub struct Answer {
     ghost knows: { told ≤ seen },
     ghost saw: { seen ≡ counted (history_of reader.log reader.docs) },
     ghost found: { ids_of frame ≡ answer (query_of frame) (k_of frame) (stretch_of reader.held reader.log reader.docs) },
-}
-
-// Searches with a counter of loads that nobody reads.
-#[tactic(auto, using(crate::proofs::Fronts::counted_more))]
-fn search_with<G: Gate, L: Ledger>(
-    reader: &mut FeedReader,
-    frame: &mut Frame,
-    gate: &G,
-    blank: Blank,
-) -> u64
-    requires blank { (blank.name ≡ L.name) × (blank.parts ≡ L.parts) × (0 < blank.parts) }
-    ensures book { reader.new.book ≡ reader.old.book }
-    ensures log { reader.new.log ≡ reader.old.log }
-    ensures held { reader.new.held ≡ reader.old.held }
-    ensures known { IsPrefix reader.old.docs reader.new.docs }
-    ensures count { result ≡ counted (history_of reader.new.log reader.new.docs) }
-    ensures more { counted (history_of reader.old.log reader.old.docs) ≤ result }
-    ensures query { query_of frame.new ≡ query_of frame.old }
-    ensures k { k_of frame.new ≡ k_of frame.old }
-    ensures ids { ids_of frame.new
-        ≡ answer (query_of frame.old) (k_of frame.old) (stretch_of reader.new.held reader.new.log reader.new.docs) }
-{
-    let mut steps = Steps::<L>::new(blank);
-    reader.search(frame, gate, &mut steps)
 }
 
 impl Job {
@@ -113,6 +86,7 @@ impl eb_desk::Job for Job {
     ghost key = { λ w. key_of (feed_name w) };
 
     #[tactic(auto, using(crate::proofs::Fronts::reads_on))]
+    #[tactic(auto, using(crate::proofs::Fronts::counted_more))]
     fn answered<G: Gate>(self, _with: &(), gate: &G) -> Answer {
         let Job {
             number,
@@ -120,7 +94,7 @@ impl eb_desk::Job for Job {
             mut frame,
             mut reader,
         } = self;
-        let seen = search_with::<G, Brand>(&mut reader, &mut frame, gate, Blank::new(1));
+        let seen = reader.search_unmetered(&mut frame, gate);
         Answer {
             number,
             told,

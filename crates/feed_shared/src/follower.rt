@@ -27,7 +27,7 @@ use std::sync::ledger::Ledger;
 /// own. Contracts see what its reader knows.
 #[derive(Drop)]
 pub struct Follower {
-    reader: FeedReader,
+    pub(crate) reader: FeedReader,
     inbox: Slot,
 }
 

@@ -12,6 +12,7 @@ mod released;
 mod spare;
 mod trail;
 mod turn;
+mod unmetered;
 mod writer;
 
 pub use converter::FeedConverter;

@@ -15,13 +15,10 @@ use eb_base::{Document, Gate, NoMemory};
 use eb_count::Tally;
 use eb_cursor::Frame;
 use eb_lines::{Form, Refusal, Tail};
-use eb_place::Steps;
 use feed_serve::{Answer, Clerk, Desk, Job, stop_all};
 use feed_shared::{FeedReader, FeedWriter};
 use run_with_workers::{Office, Settled};
-use std::marker::Brand;
 use std::sync::Wait;
-use std::sync::ledger::{Blank, Ledger};
 
 // A clerk, with the writer of its feed.
 #[derive(Drop)]
@@ -39,67 +36,6 @@ pub(crate) struct FeedOffice<'a> {
     pub(crate) form: Form,
     ghost home: { clerk.queues ≡ desk.now.queues },
     ghost goes_on: { clerk.stops ≡ 0 },
-}
-
-// Searches with a counter of loads that nobody reads.
-fn search_with<G: Gate, L: Ledger>(
-    feed: &mut FeedWriter,
-    frame: &mut Frame,
-    gate: &G,
-    blank: Blank,
-) -> u64
-    requires blank { (blank.name ≡ L.name) × (blank.parts ≡ L.parts) × (0 < blank.parts) }
-    ensures feed { feed.new ≡ feed.old }
-    ensures held { feed.old.feed.held ≡ min feed.old.keep (length feed.old.feed.log) }
-    ensures count { result ≡ known_to feed.old.feed }
-    ensures query { query_of frame.new ≡ query_of frame.old }
-    ensures k { k_of frame.new ≡ k_of frame.old }
-    ensures ids { ids_of frame.new
-        ≡ answer (query_of frame.old) (k_of frame.old) (stretch_of feed.old.feed.held feed.old.feed.log feed.old.feed.docs) }
-{
-    let mut steps = Steps::<L>::new(blank);
-    feed.search(frame, gate, &mut steps)
-}
-
-// Searches what the writer holds, with a ledger of its own for the steps.
-fn search_held<G: Gate>(feed: &mut FeedWriter, frame: &mut Frame, gate: &G) -> u64
-    ensures feed { feed.new ≡ feed.old }
-    ensures held { feed.old.feed.held ≡ min feed.old.keep (length feed.old.feed.log) }
-    ensures count { result ≡ known_to feed.old.feed }
-    ensures query { query_of frame.new ≡ query_of frame.old }
-    ensures k { k_of frame.new ≡ k_of frame.old }
-    ensures ids { ids_of frame.new
-        ≡ answer (query_of frame.old) (k_of frame.old) (stretch_of feed.old.feed.held feed.old.feed.log feed.old.feed.docs) }
-{
-    search_with::<G, Brand>(feed, frame, gate, Blank::new(1))
-}
-
-// Counts with a counter of loads that nobody reads.
-fn count_with<G: Gate, L: Ledger>(
-    feed: &mut FeedWriter,
-    frame: &mut Frame,
-    tally: &mut Tally,
-    gate: &G,
-    blank: Blank,
-) -> u64
-    requires blank { (blank.name ≡ L.name) × (blank.parts ≡ L.parts) × (0 < blank.parts) }
-    ensures feed { feed.new ≡ feed.old }
-    ensures held { feed.old.feed.held ≡ min feed.old.keep (length feed.old.feed.log) }
-    ensures count { result ≡ known_to feed.old.feed }
-    ensures counts { HasCounted (query_of frame.old) (stretch_of feed.old.feed.held feed.old.feed.log feed.old.feed.docs) tally.old tally.new }
-{
-    let mut steps = Steps::<L>::new(blank);
-    feed.count(frame, tally, gate, &mut steps)
-}
-
-// Counts in what the writer holds, with a ledger of its own for the steps.
-fn count_held<G: Gate>(feed: &mut FeedWriter, frame: &mut Frame, tally: &mut Tally, gate: &G) -> u64
-    ensures feed { feed.new ≡ feed.old }
-    ensures held { feed.old.feed.held ≡ min feed.old.keep (length feed.old.feed.log) }
-    ensures count { result ≡ known_to feed.old.feed }
-    ensures counts { HasCounted (query_of frame.old) (stretch_of feed.old.feed.held feed.old.feed.log feed.old.feed.docs) tally.old tally.new }
-{
-    count_with::<G, Brand>(feed, frame, tally, gate, Blank::new(1))
 }
 
 impl FeedOffice<'_> {
@@ -193,7 +129,7 @@ impl FeedOffice<'_> {
         if self.has_front(reader) {
             return seen;
         }
-        search_held(&mut self.feed, frame, gate)
+        self.feed.search_unmetered(frame, gate)
     }
 
     // Counts, in the tally, all matches in what is kept, after what it holds, and gives how many documents the feed has taken.
@@ -204,7 +140,7 @@ impl FeedOffice<'_> {
         ensures counts { HasCounted (query_of frame.old) (stretch_of self.old.feed.feed.held self.old.feed.feed.log self.old.feed.feed.docs)
             tally.old tally.new }
     {
-        count_held(&mut self.feed, frame, tally, gate)
+        self.feed.count_unmetered(frame, tally, gate)
     }
 
     // Puts a stop for each of the workers, and gives the clerk back.

@@ -18,13 +18,10 @@ use crate::other::read_other;
 use eb_base::{Document, Gate, NoMemory, Query};
 use eb_fields::Dialect;
 use eb_lines::{Form, Refusal, Tail};
-use eb_place::Steps;
 use eb_query::Ask;
 use eb_watch::{NoWatch, SetFault, Watches};
 use run_store::Store;
 use std::alloc::Global;
-use std::marker::Brand;
-use std::sync::ledger::{Blank, Ledger};
 
 // A store, and the watches that are set.
 #[derive(Drop)]
@@ -33,20 +30,13 @@ pub(crate) struct Watching<S> {
     watches: Watches,
 }
 
-// The numbers of the watches that a document matches, without the number of tests.
-fn told_of<L: Ledger>(
-    alloc: Global,
-    watches: &Watches,
-    document: &Document,
-    blank: Blank,
-) -> Result<Vec<u32>, NoMemory>
-    requires blank { (blank.name ≡ L.name) × (blank.parts ≡ L.parts) × (0 < blank.parts) }
+// The numbers of the watches that a document matches.
+fn told_of(alloc: Global, watches: &Watches, document: &Document) -> Result<Vec<u32>, NoMemory>
     ensures told { IfOk result (λ numbers. numbers.items ≡ numbers_of (matching (watches_of watches.now) document.now)) }
     ensures few { IfOk result (λ numbers. length numbers.items ≤ 2 ^ 32) }
 {
     let _most = watches.len();
-    let mut tests = Steps::<L>::new(blank);
-    watches.told(alloc, document, &mut tests)
+    watches.told_unmetered(alloc, document)
 }
 
 impl<S: Store> Watching<S> {
@@ -103,7 +93,7 @@ impl<S: Store> Store for Watching<S> {
     }
 
     fn told(&self, alloc: Global, document: &Document) -> Result<Vec<u32>, NoMemory> {
-        told_of::<Brand>(alloc, &self.watches, document, Blank::new(1))
+        told_of(alloc, &self.watches, document)
     }
 
     fn take_other(

@@ -16,13 +16,10 @@ use eb_count::Tally;
 use eb_cursor::Frame;
 use eb_engine::{Converter, Index, Reader, Writer};
 use eb_lines::{Form, Refusal, Tail};
-use eb_place::Steps;
 use eb_serve::{Answer, Clerk, Desk, Job, stop_all};
 use eb_writer::Full;
 use run_index::{SegmentCounts, catch_up, close, tell_segments};
-use std::marker::Brand;
 use std::sync::Wait;
-use std::sync::ledger::{Blank, Ledger};
 
 // A clerk, with the writer and the converter of its index.
 #[derive(Drop)]
@@ -43,25 +40,6 @@ pub(crate) struct IndexOffice<'a> {
     pub(crate) form: Form,
     ghost home: { clerk.queues ≡ desk.now.queues },
     ghost goes_on: { clerk.stops ≡ 0 },
-}
-
-// Counts with a counter of loads that nobody reads.
-fn count_with<G: Gate, L: Ledger>(
-    index: &Index,
-    writer: &mut Writer,
-    frame: &mut Frame,
-    tally: &mut Tally,
-    gate: &G,
-    blank: Blank,
-) -> u64
-    requires blank { (blank.name ≡ L.name) × (blank.parts ≡ L.parts) × (0 < blank.parts) }
-    requires writer { writer.old.index ≡ index.now }
-    ensures writer { writer.new ≡ writer.old }
-    ensures count { result ≡ length writer.old.docs }
-    ensures counts { HasCounted (query_of frame.old) writer.old.docs tally.old tally.new }
-{
-    let mut steps = Steps::<L>::new(blank);
-    writer.count(index, frame, tally, gate, &mut steps)
 }
 
 impl IndexOffice<'_> {
@@ -141,14 +119,7 @@ impl IndexOffice<'_> {
         ensures count { result ≡ length self.new.writer.docs }
         ensures counts { HasCounted (query_of frame.old) self.new.writer.docs tally.old tally.new }
     {
-        count_with::<G, Brand>(
-            self.index,
-            &mut self.writer,
-            frame,
-            tally,
-            gate,
-            Blank::new(1),
-        )
+        self.writer.count_unmetered(self.index, frame, tally, gate)
     }
 
     // Converts all segments but the last one, and gives how many are begun and how many are converted.

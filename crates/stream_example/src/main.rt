@@ -10,12 +10,9 @@ ghost use Rattle.std.specs.Prelude.{◌≡◌, ◌<◌};
 
 use eb_base::{Config, Document, NoMemory, OpenGate, Query, Term};
 use eb_cursor::Frame;
-use eb_place::Steps;
 use eb_text::tokens;
 use feed_shared::{FeedWriter, Follower, Leader};
 use std::alloc::Global;
-use std::marker::Brand;
-use std::sync::ledger::{Blank, Ledger};
 use std::thread::Threads;
 use std::{io, thread};
 
@@ -90,19 +87,6 @@ fn are_newest(ids: &[u64], word: u64, first: u64, count: u64) -> bool {
     ids.len() == ASKED || above < first.saturating_add(7)
 }
 
-// One search, and how many messages it saw.
-fn search_once<L: Ledger>(follower: &mut Follower, frame: &mut Frame, blank: Blank) -> u64
-    requires blank { (blank.name ≡ L.name) × (blank.parts ≡ L.parts) × (0 < blank.parts) }
-{
-    let mut steps = Steps::<L>::new(blank);
-    follower.search(frame, &OpenGate, &mut steps)
-}
-
-// A search with a counter of its own.
-fn searched(follower: &mut Follower, frame: &mut Frame) -> u64 {
-    search_once::<Brand>(follower, frame, Blank::new(1))
-}
-
 // Whether the answer of a search is right, which saw this many messages.
 fn is_right(follower: &Follower, frame: &Frame, word: u64, count: u64) -> bool {
     let passed = follower.turns().saturating_sub(follower.held() as u64);
@@ -116,7 +100,7 @@ fn follow(follower: Follower, frame: Frame, word: u64) -> u64 {
     let mut wrong = 0u64;
     for _ in 0..u64::MAX {
         follower.hear();
-        let count = searched(&mut follower, &mut frame);
+        let count = follower.search_unmetered(&mut frame, &OpenGate);
         if !is_right(&follower, &frame, word, count) {
             wrong = wrong.saturating_add(1);
         }

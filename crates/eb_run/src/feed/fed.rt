@@ -23,57 +23,15 @@ use eb_cursor::Frame;
 use eb_feed::Feed;
 use eb_fields::Dialect;
 use eb_lines::{Form, Refusal, Tail, line_room, put_answer, put_count};
-use eb_place::Steps;
 use eb_query::Ask;
 use run_store::Store;
 use std::alloc::Global;
-use std::marker::Brand;
-use std::sync::ledger::{Blank, Ledger};
 
 // A feed that the lines of an input fill and query, and how the output is written.
 #[derive(Drop)]
 pub(crate) struct Fed {
     feed: Feed,
     form: Form,
-}
-
-// Searches what the feed keeps, and returns the number of accepted documents. Takes no memory.
-fn search_kept<G: Gate, L: Ledger>(
-    feed: &mut Feed,
-    frame: &mut Frame,
-    gate: &G,
-    blank: Blank,
-) -> u64
-    requires blank { (blank.name ≡ L.name) × (blank.parts ≡ L.parts) × (0 < blank.parts) }
-    requires feed { (σ : Setting) × (keep : ℕ) × (history : List Doc) × IsFedWith feed.old σ keep history }
-    ensures taken { (σ : Setting) (keep : ℕ) (history : List Doc) → IsFedWith feed.old σ keep history → IsFedWith feed.new σ keep history }
-    ensures seen { (σ : Setting) (keep : ℕ) (history : List Doc) → IsFedWith feed.old σ keep history → result ≡ length history }
-    ensures ids { (σ : Setting) (keep : ℕ) (history : List Doc) → IsFedWith feed.old σ keep history
-        → ids_of frame.new ≡ answer (query_of frame.old) (k_of frame.old) (kept σ keep history) }
-    ensures few { length (ids_of frame.new) ≤ k_of frame.old }
-{
-    let mut steps = Steps::<L>::new(blank);
-    feed.search(frame, gate, &mut steps)
-}
-
-// Counts what matches among what the feed keeps, added to what the tally held, and returns the
-// number of accepted documents. The frame stays as it is. Takes no memory.
-fn count_kept<G: Gate, L: Ledger>(
-    feed: &mut Feed,
-    frame: &mut Frame,
-    tally: &mut Tally,
-    gate: &G,
-    blank: Blank,
-) -> u64
-    requires blank { (blank.name ≡ L.name) × (blank.parts ≡ L.parts) × (0 < blank.parts) }
-    requires feed { (σ : Setting) × (keep : ℕ) × (history : List Doc) × IsFedWith feed.old σ keep history }
-    ensures taken { (σ : Setting) (keep : ℕ) (history : List Doc) → IsFedWith feed.old σ keep history → IsFedWith feed.new σ keep history }
-    ensures seen { (σ : Setting) (keep : ℕ) (history : List Doc) → IsFedWith feed.old σ keep history → result ≡ length history }
-    ensures counts { (σ : Setting) (keep : ℕ) (history : List Doc) → IsFedWith feed.old σ keep history
-        → HasCounted (query_of frame.old) (kept σ keep history) tally.old tally.new }
-{
-    let mut steps = Steps::<L>::new(blank);
-    feed.count(frame, tally, gate, &mut steps)
 }
 
 impl Fed {
@@ -103,7 +61,7 @@ impl Fed {
     {
         let mut frame = Frame::new(alloc, query, k)?;
         text.reserve(line_room(k as usize))?;
-        let seen = search_kept::<G, Brand>(&mut self.feed, &mut frame, gate, Blank::new(1));
+        let seen = self.feed.search_unmetered(&mut frame, gate);
         put_answer(text, self.form, number, seen, frame.ids());
         Ok(())
     }
@@ -129,13 +87,7 @@ impl Fed {
         tally.clear();
         let mut frame = Frame::new(alloc, query, 1)?;
         text.reserve(line_room(1 + tally.buckets().len()))?;
-        let seen = count_kept::<G, Brand>(
-            &mut self.feed,
-            &mut frame,
-            &mut tally,
-            gate,
-            Blank::new(1),
-        );
+        let seen = self.feed.count_unmetered(&mut frame, &mut tally, gate);
         put_count(
             text,
             self.form,

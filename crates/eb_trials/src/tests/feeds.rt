@@ -8,11 +8,8 @@ use eb_base::{Config, Document, OpenGate, Query, Term, Terms};
 use eb_count::Tally;
 use eb_cursor::Frame;
 use eb_feed::Feed;
-use eb_place::Steps;
 use std::alloc::Global;
-use std::marker::Brand;
 use std::process::Abort;
-use std::sync::ledger::{Blank, Ledger};
 use std::test::Fail;
 
 // Adds a document of one term.
@@ -29,43 +26,18 @@ fn added(alloc: Global, feed: &mut Feed, id: u64, term: &[u8]) -> Result<u64, Fa
     Ok(feed.add(&document))
 }
 
-// Searches with a counter of its own.
-fn search_alone<L: Ledger>(feed: &mut Feed, frame: &mut Frame, blank: Blank) -> u64
-    requires blank { (blank.name ≡ L.name) × (blank.parts ≡ L.parts) × (0 < blank.parts) }
-    requires feed { (σ : Setting) × (keep : ℕ) × (history : List Doc) × IsFedWith feed.old σ keep history }
-    ensures { (σ : Setting) × (keep : ℕ) × (history : List Doc) × IsFedWith feed.new σ keep history }
-{
-    let mut steps = Steps::<L>::new(blank);
-    feed.search(frame, &OpenGate, &mut steps)
-}
-
 pub(super) fn searched(feed: &mut Feed, frame: &mut Frame) -> u64
     requires { (σ : Setting) × (keep : ℕ) × (history : List Doc) × IsFedWith feed.old σ keep history }
     ensures { (σ : Setting) × (keep : ℕ) × (history : List Doc) × IsFedWith feed.new σ keep history }
 {
-    search_alone::<Brand>(feed, frame, Blank::new(1))
-}
-
-// Counts with a counter of its own.
-fn count_alone<L: Ledger>(
-    feed: &mut Feed,
-    frame: &mut Frame,
-    tally: &mut Tally,
-    blank: Blank,
-) -> u64
-    requires blank { (blank.name ≡ L.name) × (blank.parts ≡ L.parts) × (0 < blank.parts) }
-    requires feed { (σ : Setting) × (keep : ℕ) × (history : List Doc) × IsFedWith feed.old σ keep history }
-    ensures { (σ : Setting) × (keep : ℕ) × (history : List Doc) × IsFedWith feed.new σ keep history }
-{
-    let mut steps = Steps::<L>::new(blank);
-    feed.count(frame, tally, &OpenGate, &mut steps)
+    feed.search_unmetered(frame, &OpenGate)
 }
 
 fn counted(feed: &mut Feed, frame: &mut Frame, tally: &mut Tally) -> u64
     requires { (σ : Setting) × (keep : ℕ) × (history : List Doc) × IsFedWith feed.old σ keep history }
     ensures { (σ : Setting) × (keep : ℕ) × (history : List Doc) × IsFedWith feed.new σ keep history }
 {
-    count_alone::<Brand>(feed, frame, tally, Blank::new(1))
+    feed.count_unmetered(frame, tally, &OpenGate)
 }
 
 // Adds a document of the term `a`, and looks at what is found and counted then.

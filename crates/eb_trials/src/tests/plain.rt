@@ -3,7 +3,8 @@ use super::asking::query;
 use super::chains::of_a;
 use super::made::{document, four};
 use eb_base::{Config, Document, Query, Term};
-use eb_plain::{cut, fits, has_room, is_match, newest};
+use eb_match::is_match;
+use eb_plain::{cut, fits, has_room, newest};
 use std::alloc::Global;
 use std::test::Fail;
 

@@ -5,29 +5,14 @@ ghost use Rattle.std.specs.Prelude.{◌≡◌, ◌<◌};
 
 use super::made::{Question, documents, first_held, is_scanned, question_of};
 use eb_base::{Config, Document, OpenGate};
-use eb_place::Steps;
 use feed_shared::{FeedWriter, Follower, Leader};
 use std::alloc::Global;
-use std::marker::Brand;
-use std::sync::ledger::{Blank, Ledger};
 use std::test::Fail;
 use std::thread;
 use std::thread::Threads;
 
 // How many documents a generation takes: two segments of three.
 const SIZE: u64 = 6;
-
-fn follow_alone<L: Ledger>(follower: &mut Follower, question: &mut Question, blank: Blank) -> u64
-    requires blank { (blank.name ≡ L.name) × (blank.parts ≡ L.parts) × (0 < blank.parts) }
-{
-    let mut steps = Steps::<L>::new(blank);
-    follower.search(&mut question.frame, &OpenGate, &mut steps)
-}
-
-// A search with a counter of its own.
-fn followed(follower: &mut Follower, question: &mut Question) -> u64 {
-    follow_alone::<Brand>(follower, question, Blank::new(1))
-}
 
 // Hears and searches until all documents are seen: whether each answer was right, and none over
 // fewer documents than before.
@@ -37,7 +22,7 @@ fn follow(alloc: Global, follower: Follower, question: Question, documents: &[Do
     let mut last = 0;
     for _ in 0..u64::MAX {
         follower.hear();
-        let count = followed(&mut follower, &mut question);
+        let count = follower.search_unmetered(&mut question.frame, &OpenGate);
         let from = first_held(follower.turns(), follower.held(), SIZE);
         if count < last
             || !is_scanned(

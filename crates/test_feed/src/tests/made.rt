@@ -4,12 +4,9 @@ ghost use Rattle.std.specs.Prelude.{◌≡◌, ◌<◌, IfOk};
 use eb_base::{Document, Gate, OpenGate, Queries, Query, Term, Terms};
 use eb_count::Tally;
 use eb_cursor::Frame;
-use eb_place::Steps;
 use eb_plain::newest;
 use feed_shared::{FeedReader, FeedWriter};
 use std::alloc::Global;
-use std::marker::Brand;
-use std::sync::ledger::{Blank, Ledger};
 use std::test::Fail;
 
 // A document of the term `d`, and of `a` or `b` where 2 or 3 divides its id.
@@ -122,57 +119,23 @@ pub(super) fn renewed(feed: &mut FeedWriter) -> Result<FeedReader, Fail>
     }
 }
 
-fn search_alone<G: Gate, L: Ledger>(
-    reader: &mut FeedReader,
-    frame: &mut Frame,
-    gate: &G,
-    blank: Blank,
-) -> u64
-    requires blank { (blank.name ≡ L.name) × (blank.parts ≡ L.parts) × (0 < blank.parts) }
-    ensures { reader.new.book ≡ reader.old.book }
-{
-    let mut steps = Steps::<L>::new(blank);
-    reader.search(frame, gate, &mut steps)
-}
-
-// A search with a counter of its own.
+// A search, which stays with its feed.
 pub(super) fn searched<G: Gate>(reader: &mut FeedReader, frame: &mut Frame, gate: &G) -> u64
     ensures { reader.new.book ≡ reader.old.book }
 {
-    search_alone::<G, Brand>(reader, frame, gate, Blank::new(1))
+    reader.search_unmetered(frame, gate)
 }
 
-fn count_alone<L: Ledger>(
-    reader: &mut FeedReader,
-    frame: &mut Frame,
-    tally: &mut Tally,
-    blank: Blank,
-) -> u64
-    requires blank { (blank.name ≡ L.name) × (blank.parts ≡ L.parts) × (0 < blank.parts) }
-    ensures { reader.new.book ≡ reader.old.book }
-{
-    let mut steps = Steps::<L>::new(blank);
-    reader.count(frame, tally, &OpenGate, &mut steps)
-}
-
-// A count with a counter of its own.
+// A count, which stays with its feed.
 pub(super) fn counted(reader: &mut FeedReader, frame: &mut Frame, tally: &mut Tally) -> u64
     ensures { reader.new.book ≡ reader.old.book }
 {
-    count_alone::<Brand>(reader, frame, tally, Blank::new(1))
-}
-
-fn write_search_alone<L: Ledger>(feed: &mut FeedWriter, frame: &mut Frame, blank: Blank) -> u64
-    requires blank { (blank.name ≡ L.name) × (blank.parts ≡ L.parts) × (0 < blank.parts) }
-    ensures { feed.new ≡ feed.old }
-{
-    let mut steps = Steps::<L>::new(blank);
-    feed.search(frame, &OpenGate, &mut steps)
+    reader.count_unmetered(frame, tally, &OpenGate)
 }
 
 // A search by the writer.
 pub(super) fn own_search(feed: &mut FeedWriter, frame: &mut Frame) -> u64
     ensures { feed.new ≡ feed.old }
 {
-    write_search_alone::<Brand>(feed, frame, Blank::new(1))
+    feed.search_unmetered(frame, &OpenGate)
 }

@@ -27,23 +27,23 @@ put_as form n seen q docs old cleared new before after buckets total put sum eac
 
 pub put_count-requires : goal.put_count-requires
 put_count-requires g c =
-    let new = c.count_with-seen.new.tally in
-    let long = long_as c.args.tally.now c.clear.new.self new c.clear.ensures c.count_with-seen.ensures.counts.long in
+    let new = c.count_unmetered-seen.new.tally in
+    let long = long_as c.args.tally.now c.clear.new.self new c.clear.ensures c.count_unmetered-seen.ensures.counts.long in
     omega (arith, c.requires.room, long, ap length c.buckets.ensures)
 
 pub returns-clause-buckets : goal.returns-clause-buckets
-returns-clause-buckets g c = long_as c.args.tally.now c.clear.new.self c.count_with-seen.new.tally c.clear.ensures c.count_with-seen.ensures.counts.long
+returns-clause-buckets g c = long_as c.args.tally.now c.clear.new.self c.count_unmetered-seen.new.tally c.clear.ensures c.count_unmetered-seen.ensures.counts.long
 
 pub returns-clause-len : goal.returns-clause-len
 returns-clause-len g c =
-    let new = c.count_with-seen.new.tally in
-    let long = long_as c.args.tally.now c.clear.new.self new c.clear.ensures c.count_with-seen.ensures.counts.long in
+    let new = c.count_unmetered-seen.new.tally in
+    let long = long_as c.args.tally.now c.clear.new.self new c.clear.ensures c.count_unmetered-seen.ensures.counts.long in
     omega (arith, c.put_count.ensures.len, long, ap length c.buckets.ensures)
 
 pub returns-clause-text : goal.returns-clause-text
 returns-clause-text g c =
-    let docs = c.count_with-seen.new.reader.docs in
-    let e = c.count_with-seen.ensures in
+    let docs = c.count_unmetered-seen.new.self.docs in
+    let e = c.count_unmetered-seen.ensures in
     let few : length docs < 2 ^ 64 = omega (arith, e.count) in
-    put_as c.args.setup.now.form c.args.number c.count_with-seen.result (query_of c.args.frame.now) docs c.args.tally.now c.clear.new.self c.count_with-seen.new.tally c.args.text.now.items
+    put_as c.args.setup.now.form c.args.number c.count_unmetered-seen.result (query_of c.args.frame.now) docs c.args.tally.now c.clear.new.self c.count_unmetered-seen.new.tally c.args.text.now.items
     c.put_count.new.text.items c.buckets.result.now c.total.result c.put_count.ensures.text c.total.ensures c.buckets.ensures e.count few c.clear.ensures e.counts

@@ -8,4 +8,4 @@ returns-clause-few g c =
     let most = c.len-most.ensures.few in
     let len = c.len-most.ensures.len in
     let few : length (watches_of c.args.watches.now) ≤ 10000 = omega (arith, most, len) in
-    told_most (watches_of c.args.watches.now) c.args.document.now c.told.result c.told.ensures.told few
+    told_most (watches_of c.args.watches.now) c.args.document.now c.told_unmetered.result c.told_unmetered.ensures.told few

@@ -8,42 +8,9 @@ use eb_base::{Config, OpenGate};
 use eb_count::Tally;
 use eb_cursor::Frame;
 use eb_engine::{Index, Reader, Writer};
-use eb_place::Steps;
 use std::alloc::Global;
-use std::marker::Brand;
 use std::process::Abort;
-use std::sync::ledger::{Blank, Ledger};
 use std::test::Fail;
-
-fn count_by_writer<L: Ledger>(
-    writer: &mut Writer,
-    index: &Index,
-    frame: &mut Frame,
-    tally: &mut Tally,
-    blank: Blank,
-) -> u64
-    requires blank { (blank.name ≡ L.name) × (blank.parts ≡ L.parts) × (0 < blank.parts) }
-    requires made { writer.old.index ≡ index.now }
-    ensures { writer.new.index ≡ writer.old.index }
-{
-    let mut steps = Steps::<L>::new(blank);
-    writer.count(index, frame, tally, &OpenGate, &mut steps)
-}
-
-fn count_by_reader<L: Ledger>(
-    reader: &mut Reader,
-    index: &Index,
-    frame: &mut Frame,
-    tally: &mut Tally,
-    blank: Blank,
-) -> u64
-    requires blank { (blank.name ≡ L.name) × (blank.parts ≡ L.parts) × (0 < blank.parts) }
-    requires made { reader.old.index ≡ index.now }
-    ensures { reader.new.index ≡ reader.old.index }
-{
-    let mut steps = Steps::<L>::new(blank);
-    reader.count(index, frame, tally, &OpenGate, &mut steps)
-}
 
 // Counts twice into one tally, by the writer and by a reader, after the tally is cleared: each adds
 // the same.
@@ -52,9 +19,9 @@ fn counted(index: &Index, writer: &mut Writer, frame: &mut Frame, tally: &mut Ta
     ensures { writer.new.index ≡ index.now }
 {
     tally.clear();
-    let first = count_by_writer::<Brand>(writer, index, frame, tally, Blank::new(1));
+    let first = writer.count_unmetered(index, frame, tally, &OpenGate);
     let mut reader = writer.reader(index);
-    let second = count_by_reader::<Brand>(&mut reader, index, frame, tally, Blank::new(1));
+    let second = reader.count_unmetered(index, frame, tally, &OpenGate);
     (first, second)
 }
 

@@ -7,12 +7,9 @@ ghost use Rattle.eb_cursor.specs.Frames.{query_of, k_of, ids_of};
 use eb_base::{Document, Gate, OpenGate, Queries, Query, Term, Terms};
 use eb_cursor::Frame;
 use eb_engine::{Index, Reader, Writer};
-use eb_place::Steps;
 use eb_plain::newest;
 use eb_writer::Full;
 use std::alloc::Global;
-use std::marker::Brand;
-use std::sync::ledger::{Blank, Ledger};
 use std::test::Fail;
 
 // A document of the term `d`, and of `a`, `b` or `c` where 2, 3 or 5 divides its id.
@@ -144,25 +141,7 @@ pub(super) fn added(writer: &mut Writer, index: &Index, document: &Document) -> 
     }
 }
 
-fn search_alone<G: Gate, L: Ledger>(
-    reader: &mut Reader,
-    index: &Index,
-    frame: &mut Frame,
-    gate: &G,
-    blank: Blank,
-) -> u64
-    requires blank { (blank.name ≡ L.name) × (blank.parts ≡ L.parts) × (0 < blank.parts) }
-    requires made { reader.old.index ≡ index.now }
-    ensures index { reader.new.index ≡ reader.old.index }
-    ensures known { IsPrefix reader.old.docs reader.new.docs }
-    ensures count { result ≡ length reader.new.docs }
-    ensures ids { ids_of frame.new ≡ answer (query_of frame.old) (k_of frame.old) reader.new.docs }
-{
-    let mut steps = Steps::<L>::new(blank);
-    reader.search(index, frame, gate, &mut steps)
-}
-
-// A search with a counter of its own.
+// A search, and what is known of it.
 pub(super) fn searched<G: Gate>(
     reader: &mut Reader,
     index: &Index,
@@ -175,5 +154,5 @@ pub(super) fn searched<G: Gate>(
     ensures count { result ≡ length reader.new.docs }
     ensures ids { ids_of frame.new ≡ answer (query_of frame.old) (k_of frame.old) reader.new.docs }
 {
-    search_alone::<G, Brand>(reader, index, frame, gate, Blank::new(1))
+    reader.search_unmetered(index, frame, gate)
 }

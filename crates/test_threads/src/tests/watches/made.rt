@@ -145,25 +145,8 @@ pub(super) fn tested(alloc: Global, query: &Query, terms: &[&[u8]]) -> Result<bo
     Ok(tested_alone(query, &document))
 }
 
-fn told_counted<L: Ledger>(
-    alloc: Global,
-    watches: &Watches,
-    document: &Document,
-    blank: Blank,
-) -> Result<Vec<u32>, NoMemory>
-    requires { (blank.name ≡ L.name) × (blank.parts ≡ L.parts) × (0 < blank.parts) }
-{
-    let mut tests = Steps::<L>::new(blank);
-    watches.told(alloc, document, &mut tests)
-}
-
-// The numbers of the watches that a document matches, with a counter of its own.
-fn told_alone(alloc: Global, watches: &Watches, document: &Document) -> Result<Vec<u32>, NoMemory> {
-    told_counted::<Brand>(alloc, watches, document, Blank::new(1))
-}
-
 // The numbers of the watches that a document of these terms, with the id 5, matches.
 pub(super) fn matched(alloc: Global, watches: &Watches, terms: &[&[u8]]) -> Result<Vec<u32>, Fail> {
     let document = document(alloc, terms).ok_or("no document")?;
-    Ok(told_alone(alloc, watches, &document)?)
+    Ok(watches.told_unmetered(alloc, &document)?)
 }

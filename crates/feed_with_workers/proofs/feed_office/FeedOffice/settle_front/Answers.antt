@@ -28,11 +28,11 @@ returns-then-has_front-clause-ids g c = λ few.
     ∙ ap (kept w.setting w.keep) (sym (settled_front w known c.args.seen (e.front yes) seen)))
 
 pub returns-clause-same : goal.returns-clause-same
-returns-clause-same g c = same_office c.has_front.new.self _ refl refl c.search_held.ensures.feed refl ∙ c.has_front.ensures.same
+returns-clause-same g c = same_office c.has_front.new.self _ refl refl c.search_unmetered.ensures.this refl ∙ c.has_front.ensures.same
 
 pub returns-clause-within : goal.returns-clause-within
 returns-clause-within g c = λ few.
-    let count = c.search_held.ensures.count ∙ ap (λ (o : FeedOffice). counted (docs_of o)) c.has_front.ensures.same in
+    let count = c.search_unmetered.ensures.count ∙ ap (λ (o : FeedOffice). counted (docs_of o)) c.has_front.ensures.same in
     omega (arith, count, few)
 
 pub returns-clause-ids : goal.returns-clause-ids
@@ -42,8 +42,8 @@ returns-clause-ids g c = λ few.
     let docs = taken_by w in
     let q = query_of c.args.frame.now in
     let k = k_of c.args.frame.now in
-    let count = c.search_held.ensures.count ∙ ap (λ (o : FeedOffice). counted (docs_of o)) same ∙ counted_is docs few in
-    let all : take c.search_held.result docs ≡ docs = take_all c.search_held.result docs (omega (arith, count)) in
-    let held = subst (λ (o : FeedOffice). o.feed.feed.held ≡ min o.feed.keep (length o.feed.feed.log)) same c.search_held.ensures.held in
-    c.search_held.ensures.ids ∙ ap (λ (o : FeedOffice). answer q k (stretch_of o.feed.feed.held o.feed.feed.log o.feed.feed.docs)) same
+    let count = c.search_unmetered.ensures.count ∙ ap (λ (o : FeedOffice). counted (docs_of o)) same ∙ counted_is docs few in
+    let all : take c.search_unmetered.result docs ≡ docs = take_all c.search_unmetered.result docs (omega (arith, count)) in
+    let held = subst (λ (o : FeedOffice). o.feed.feed.held ≡ min o.feed.keep (length o.feed.feed.log)) same c.search_unmetered.ensures.held in
+    c.search_unmetered.ensures.ids ∙ ap (λ (o : FeedOffice). answer q k (stretch_of o.feed.feed.held o.feed.feed.log o.feed.feed.docs)) same
     ∙ ap (answer q k) (writer_keeps w c.requires.staffed.taken held ∙ ap (kept w.setting w.keep) (sym all))

@@ -1,4 +1,0 @@
-use Rattle.eb_c.proofs.held.HeldReader.count.Given as goal
-
-abbrev pub ghosts-count_in : goal.ghosts-count_in
-ghosts-count_in a = record { name = a.blank.name; parts = a.blank.parts }

@@ -1,4 +1,0 @@
-use Rattle.eb_c.proofs.held.HeldReader.search.Given as goal
-
-abbrev pub ghosts-search_in : goal.ghosts-search_in
-ghosts-search_in a = record { name = a.blank.name; parts = a.blank.parts }

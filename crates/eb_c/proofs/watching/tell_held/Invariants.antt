@@ -1,4 +1,0 @@
-use Rattle.eb_c.proofs.watching.tell_held.Given as goal
-
-abbrev pub ghosts-told_of : goal.ghosts-told_of
-ghosts-told_of a = record { name = a.blank.name; parts = a.blank.parts }

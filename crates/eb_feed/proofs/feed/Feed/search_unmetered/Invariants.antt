@@ -1,0 +1,4 @@
+use Rattle.eb_feed.proofs.feed.Feed.search_unmetered.Given as goal
+
+abbrev pub ghosts-search_by : goal.ghosts-search_by
+ghosts-search_by g a = record { name = a.blank.name; parts = a.blank.parts }

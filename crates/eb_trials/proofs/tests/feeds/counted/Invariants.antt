@@ -1,4 +1,0 @@
-use Rattle.eb_trials.proofs.tests.feeds.counted.Given as goal
-
-abbrev pub ghosts-count_alone : goal.ghosts-count_alone
-ghosts-count_alone a = record { name = a.blank.name; parts = a.blank.parts }

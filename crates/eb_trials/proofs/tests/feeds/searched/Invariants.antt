@@ -1,4 +1,0 @@
-use Rattle.eb_trials.proofs.tests.feeds.searched.Given as goal
-
-abbrev pub ghosts-search_alone : goal.ghosts-search_alone
-ghosts-search_alone a = record { name = a.blank.name; parts = a.blank.parts }
