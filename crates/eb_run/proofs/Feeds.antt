@@ -8,19 +8,14 @@ use Rattle.run_store.proofs.Taking.{ends_none}
 use Rattle.eb_io.specs.Lines.{Line}
 use Rattle.eb_lines.specs.declared.status.Status.{Status}
 use Rattle.eb_lines.specs.declared.status.Status.TheVariants.{NoMemory}
-use Rattle.eb_lines.specs.Passing.{Ends}
 use Rattle.eb_run.specs.declared.feed.command.FeedCommand.{FeedCommand}
 use Rattle.eb_run.specs.declared.feed.command.FeedWay.{FeedWay}
 use Rattle.eb_run.specs.declared.feed.command.FeedWay.TheVariants.{InOrder, Watches, Overlap, Workers}
 use Rattle.eb_run.specs.FeedLaws.{IsSettledWay}
-use Rattle.eb_run.specs.FeedOutput.{rules_of, workers_of, IsBodyFed, IsTextFed, HasRefusalFed, HasNoRefusalFed}
+use Rattle.eb_run.specs.FeedOutput.{rules_of, workers_of, fed_rules, IsTextFed, EndsFed}
 use Rattle.run_with_watches.proofs.OtherLines.{one_other, some_other}
 use Rattle.run_with_watches.specs.Others.{ReadsOther}
 use Rattle.run_with_watches.specs.WatchRules.{with_watches}
-
--- how a feed ends
-abbrev pub EndsFed : FeedWay → Dialect → FeedCommand → Status → Option (List ℕ) → Option (List ℕ) → Option (List ℕ) → Option (List ℕ) → Type 0
-EndsFed w how c = Ends (IsBodyFed w how c) (IsTextFed w how c) (HasRefusalFed w how c) (HasNoRefusalFed w how c)
 
 pub ended : (v w : FeedWay) (how : Dialect) (c : FeedCommand) (s : Status) (l0 l1 p0 p1 : Option (List ℕ)) → v ≡ w → EndsFed w how c s l0 l1 p0 p1
     → EndsFed v how c s l0 l1 p0 p1
@@ -28,10 +23,7 @@ ended v w how c s l0 l1 p0 p1 same e = subst (λ (x : FeedWay). EndsFed x how c 
 
 -- where nothing was read
 pub fed_none : (w : FeedWay) (how : Dialect) (c : FeedCommand) (left printed : Option (List ℕ)) → EndsFed w how c NoMemory left left printed printed
-fed_none InOrder how c left printed = ends_none is_bad exactly (rules_of how c) left printed
-fed_none Watches how c left printed = ends_none ReadsOther exactly (with_watches (rules_of how c)) left printed
-fed_none Overlap how c left printed = ends_none is_bad exactly (rules_of how c) left printed
-fed_none (Workers n) how c left printed = ends_none is_bad at_least (workers_of how c) left printed
+fed_none w how c left printed = let r = fed_rules how c w in ends_none r.other r.way r.rules left printed
 
 -- lines have one text
 pub one_fed : (w : FeedWay) (how : Dialect) (c : FeedCommand) (lines : List Line) (x y : List ℕ) → IsSettledWay w → IsTextFed w how c lines x → IsTextFed w how c lines y → x ≡ y

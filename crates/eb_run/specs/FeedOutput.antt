@@ -1,9 +1,9 @@
 -- What a feed prints for the bytes of an input.
 use Rattle.eb_fields.specs.Dialect.{Dialect}
 use Rattle.std.specs.Prelude.{ℕ, List, [], length, Option, None, if◌then◌else◌}
-use Rattle.run_store.specs.Rules.{Rules, plain_rules, is_bad, AreRead, HasRefusal, HasNoRefusal}
+use Rattle.run_store.specs.Rules.{Rules, plain_rules, is_bad, AreRead}
 use Rattle.run_store.specs.Sees.{exactly, at_least}
-use Rattle.run_store.specs.Text.{IsBody, IsText}
+use Rattle.run_store.specs.Text.{IsText, EndsOf, WroteOf, MeansOf}
 use Rattle.eb_base.specs.Document.{Doc}
 use Rattle.eb_base.specs.Setting.{Setting}
 use Rattle.eb_feed.specs.Generations.{generations, kept, kept_segments}
@@ -12,10 +12,10 @@ use Rattle.eb_lines.specs.declared.form.Form.{Form}
 use Rattle.eb_lines.specs.declared.form.Tail.{Tail}
 use Rattle.eb_lines.specs.declared.form.Tail.TheVariants.{Kept, Generations}
 use Rattle.eb_lines.specs.declared.status.Status.{Status}
-use Rattle.eb_lines.specs.Outcomes as outcomes
-use Rattle.eb_lines.specs.Passing as passing
 use Rattle.eb_lines.specs.Reading.{Reading}
 use Rattle.feed_with_workers.specs.FeedRules.{workers_rules}
+use Rattle.eb_run.specs.RunRules.{RunRules}
+use Rattle.eb_watch.specs.Watches.{Watched}
 use Rattle.eb_run.specs.declared.feed.command.FeedCommand.{FeedCommand}
 use Rattle.eb_run.specs.declared.feed.command.FeedWay.{FeedWay}
 use Rattle.eb_run.specs.declared.feed.command.FeedWay.TheVariants.{InOrder, Watches, Overlap, Workers}
@@ -41,40 +41,25 @@ rules_of how c = feed_rules how c.config c.keep c.form
 abbrev pub workers_of : Dialect → FeedCommand → Rules (Unit {0})
 workers_of how c = workers_rules how c.config c.keep c.form
 
--- ---- by the way in which its lines are processed
+-- by which rules the lines of a feed are processed in this way
+abbrev pub fed_rules : Dialect → FeedCommand → FeedWay → RunRules
+fed_rules how c InOrder = record { Held = Unit {0}; other = is_bad; way = exactly; rules = rules_of how c }
+fed_rules how c Watches = record { Held = List Watched; other = ReadsOther; way = exactly; rules = with_watches (rules_of how c) }
+fed_rules how c Overlap = record { Held = Unit {0}; other = is_bad; way = exactly; rules = rules_of how c }
+fed_rules how c (Workers n) = record { Held = Unit {0}; other = is_bad; way = at_least; rules = workers_of how c }
 
--- the lines are read one by one, and come to these
+-- the lines come to these
 abbrev pub AreFed : FeedWay → Dialect → FeedCommand → List Line → List Reading → Type 0
-AreFed InOrder how c = AreRead is_bad (rules_of how c)
-AreFed Watches how c = AreRead ReadsOther (with_watches (rules_of how c))
-AreFed Overlap how c = AreRead is_bad (rules_of how c)
-AreFed (Workers n) how c = AreRead is_bad (workers_of how c)
+AreFed way how c = let r = fed_rules how c way in AreRead r.other r.rules
 
--- what these lines print; their whole text
-abbrev pub IsBodyFed : FeedWay → Dialect → FeedCommand → List Line → List ℕ → Type 0
-IsBodyFed InOrder how c = IsBody is_bad exactly (rules_of how c)
-IsBodyFed Watches how c = IsBody ReadsOther exactly (with_watches (rules_of how c))
-IsBodyFed Overlap how c = IsBody is_bad exactly (rules_of how c)
-IsBodyFed (Workers n) how c = IsBody is_bad at_least (workers_of how c)
-
+-- the whole text of these lines
 abbrev pub IsTextFed : FeedWay → Dialect → FeedCommand → List Line → List ℕ → Type 0
-IsTextFed InOrder how c = IsText is_bad exactly (rules_of how c)
-IsTextFed Watches how c = IsText ReadsOther exactly (with_watches (rules_of how c))
-IsTextFed Overlap how c = IsText is_bad exactly (rules_of how c)
-IsTextFed (Workers n) how c = IsText is_bad at_least (workers_of how c)
+IsTextFed way how c = let r = fed_rules how c way in IsText r.other r.way r.rules
 
--- some line is refused; none is
-abbrev pub HasRefusalFed : FeedWay → Dialect → FeedCommand → List Line → Type 0
-HasRefusalFed InOrder how c = HasRefusal is_bad (rules_of how c)
-HasRefusalFed Watches how c = HasRefusal ReadsOther (with_watches (rules_of how c))
-HasRefusalFed Overlap how c = HasRefusal is_bad (rules_of how c)
-HasRefusalFed (Workers n) how c = HasRefusal is_bad (workers_of how c)
-
-abbrev pub HasNoRefusalFed : FeedWay → Dialect → FeedCommand → List Line → Type 0
-HasNoRefusalFed InOrder how c = HasNoRefusal is_bad (rules_of how c)
-HasNoRefusalFed Watches how c = HasNoRefusal ReadsOther (with_watches (rules_of how c))
-HasNoRefusalFed Overlap how c = HasNoRefusal is_bad (rules_of how c)
-HasNoRefusalFed (Workers n) how c = HasNoRefusal is_bad (workers_of how c)
+-- how a feed whose lines are processed in this way ends, by what was left and taken before and
+-- after
+abbrev pub EndsFed : FeedWay → Dialect → FeedCommand → Status → (l0 l1 p0 p1 : Option (List ℕ)) → Type 0
+EndsFed way how c = let r = fed_rules how c way in EndsOf r.other r.way r.rules
 
 -- ---- of what the words ask for
 
@@ -82,15 +67,15 @@ HasNoRefusalFed (Workers n) how c = HasNoRefusal is_bad (workers_of how c)
 abbrev pub IsFeedOutput : Dialect → FeedCommand → List ℕ → List ℕ → Type 0
 IsFeedOutput how c bytes printed = IsTextFed c.way how c (lines_of bytes) printed
 
--- how a feed ends so of an input, by what was left and taken before and after
-abbrev pub EndsFeed : Dialect → FeedCommand → Status → Option (List ℕ) → Option (List ℕ) → Option (List ℕ) → Option (List ℕ) → Type 0
-EndsFeed how c = passing.Ends (IsBodyFed c.way how c) (IsTextFed c.way how c) (HasRefusalFed c.way how c) (HasNoRefusalFed c.way how c)
+-- how a feed ends
+abbrev pub EndsFeed : Dialect → FeedCommand → Status → (l0 l1 p0 p1 : Option (List ℕ)) → Type 0
+EndsFeed how c = EndsFed c.way how c
 
 -- what a feed that ends so has printed, of an input of these bytes of which this is left
 abbrev pub WroteFeed : Dialect → FeedCommand → Status → List ℕ → Option (List ℕ) → List ℕ → Type 0
-WroteFeed how c = outcomes.Wrote (IsBodyFed c.way how c) (IsTextFed c.way how c) (HasRefusalFed c.way how c) (HasNoRefusalFed c.way how c)
+WroteFeed how c = let r = fed_rules how c c.way in WroteOf r.other r.way r.rules
 
 -- what a status says of an input of these bytes of which this is left, whatever became of the
 -- output
 abbrev pub FeedMeans : Dialect → FeedCommand → Status → List ℕ → Option (List ℕ) → Type 0
-FeedMeans how c = outcomes.Means (HasRefusalFed c.way how c) (HasNoRefusalFed c.way how c)
+FeedMeans how c = let r = fed_rules how c c.way in MeansOf r.other r.rules

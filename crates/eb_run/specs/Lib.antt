@@ -1,4 +1,5 @@
 pub mod Command
+pub mod RunRules
 pub mod Output
 pub mod Holding
 pub mod Waiting

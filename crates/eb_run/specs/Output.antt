@@ -1,8 +1,8 @@
 -- What a run prints for the bytes of an input, by its mode.
 use Rattle.eb_fields.specs.Dialect.{Dialect}
 use Rattle.std.specs.Prelude.{ℕ, List, []}
-use Rattle.run_store.specs.Rules.{Rules, is_bad}
-use Rattle.run_store.specs.Sees.{Reach, exactly, between, at_least}
+use Rattle.run_store.specs.Rules.{is_bad}
+use Rattle.run_store.specs.Sees.{exactly, between, at_least}
 use Rattle.run_store.specs.Text.{IsText}
 use Rattle.eb_base.specs.Setting.{Setting}
 use Rattle.run_index.specs.IndexRules.{index_rules}
@@ -10,22 +10,13 @@ use Rattle.run_over_parts.specs.Texts.{parts_rules}
 use Rattle.run_with_watches.specs.Others.{ReadsOther}
 use Rattle.run_with_watches.specs.WatchRules.{watch_rules}
 use Rattle.eb_io.specs.Lines.{lines_of}
-use Rattle.eb_lines.specs.Reading.{Reading}
 use Rattle.eb_lines.specs.declared.form.Form.{Form}
 use Rattle.eb_watch.specs.Watches.{Watched}
+use Rattle.eb_run.specs.RunRules.{RunRules}
 use Rattle.eb_run.specs.declared.command.mode.Mode.{Mode}
 use Rattle.eb_run.specs.declared.command.mode.Mode.TheVariants.{InOrder, Overlap, Workers, Parts, OverlapParts, Watch}
 
--- by which rules a run goes, where `Held` is what its store holds beside documents: how a line is
--- read that is neither blank, nor a document or query line; which documents its queries may see; and
--- the rules of its store
-pub record RunRules : Type 1 where
-  pub Held : Type 0
-  pub other : Dialect → List ℕ → Reading → Type 0
-  pub way : Reach
-  pub rules : Rules Held
-
--- in this mode, over an index of this setting, or several
+-- by which rules a run goes in this mode, over an index of this setting, or several
 abbrev pub run_rules : Dialect → Setting → Mode → Form → RunRules
 run_rules how σ InOrder form = record { Held = Unit {0}; other = is_bad; way = exactly; rules = index_rules how σ form [] }
 run_rules how σ Overlap form = record { Held = Unit {0}; other = is_bad; way = between; rules = index_rules how σ form [] }

@@ -27,7 +27,7 @@ use eb_lines::{Refusal, Status};
 use fed::Fed;
 use feed_with_workers::{FeedPlan, run_feed_workers};
 use run_ahead::{Other, answer_lines_ahead, place_each};
-use run_store::answer_lines;
+use run_store::{Plan, answer_lines};
 use run_with_watches::answer_watched;
 use std::alloc::Global;
 use std::sync::Wait;
@@ -107,9 +107,11 @@ fn run_words<R: Threads + Wait + Sync, S: Source, K: Sink, G: Gate + Sync>(
     let FeedRequest { command, dialect } = request;
     if let FeedWay::Workers(workers) = command.way {
         let plan = FeedPlan {
-            dialect,
-            form: command.form,
-            config: command.config,
+            lines: Plan {
+                dialect,
+                form: command.form,
+                config: command.config,
+            },
             keep: command.keep,
         };
         return run_feed_workers(rt, alloc, workers, &plan, source, out, gate);

@@ -85,8 +85,7 @@ impl eb_desk::Job for Job {
 
     ghost key = { λ w. key_of (feed_name w) };
 
-    #[tactic(auto, using(crate::proofs::Fronts::reads_on))]
-    #[tactic(auto, using(crate::proofs::Fronts::counted_more))]
+    #[tactic(auto, using(crate::proofs::Fronts::reads_on, crate::proofs::Fronts::counted_more))]
     fn answered<G: Gate>(self, _with: &(), gate: &G) -> Answer {
         let Job {
             number,

@@ -40,10 +40,10 @@ fn serve<R: Threads + Wait + Sync, S: Source, K: Sink, G: Gate + Sync>(
     out: &mut K,
     gate: &G,
 ) -> (Status, Clerk)
-    requires { IsNewSide service.now.desk.now.queues service.now.plan.now.config service.now.plan.now.keep side.old }
+    requires { IsNewSide service.now.desk.now.queues service.now.plan.now.lines.config service.now.plan.now.keep side.old }
     ensures stops { result.1.stops ≡ service.now.workers }
-    ensures ends { EndsOf is_bad at_least (workers_rules (dialect_of service.now.plan.now.dialect) service.now.plan.now.config
-        service.now.plan.now.keep service.now.plan.now.form) result.0
+    ensures ends { EndsOf is_bad at_least (workers_rules (dialect_of service.now.plan.now.lines.dialect) service.now.plan.now.lines.config
+        service.now.plan.now.keep service.now.plan.now.lines.form) result.0
         (S.left source.old) (S.left source.new) (K.taken out.old) (K.taken out.new) }
     ensures read_fault { result.0 ≡ Status.ReadFault → HasRisen (S.faults source.old) (S.faults source.new) }
     ensures write_fault { result.0 ≡ Status.WriteFault → HasRisen (K.faults out.old) (K.faults out.new) }
@@ -60,9 +60,9 @@ fn serve<R: Threads + Wait + Sync, S: Source, K: Sink, G: Gate + Sync>(
         desk,
         clerk,
         feed,
-        form: plan.form,
+        form: plan.lines.form,
     };
-    let (status, office) = serve_lines(rt, alloc, office, plan.dialect, source, out, gate);
+    let (status, office) = serve_lines(rt, alloc, office, plan.lines.dialect, source, out, gate);
     (status, office.stop(rt, workers))
 }
 
@@ -93,12 +93,12 @@ where
     requires workers { (1 ≤ workers) × (workers ≤ 16) }
     requires keep { (2 ≤ plan.now.keep) × (plan.now.keep ≤ 64) }
     ensures ends { EndsOf is_bad at_least
-        (workers_rules (dialect_of plan.entry.now.dialect) plan.entry.now.config plan.entry.now.keep plan.entry.now.form) result
+        (workers_rules (dialect_of plan.entry.now.lines.dialect) plan.entry.now.lines.config plan.entry.now.keep plan.entry.now.lines.form) result
         (S.left source.old) (S.left source.new) (K.taken out.old) (K.taken out.new) }
     ensures read_fault { result ≡ Status.ReadFault → HasRisen (S.faults source.old) (S.faults source.new) }
     ensures write_fault { result ≡ Status.WriteFault → HasRisen (K.faults out.old) (K.faults out.new) }
 {
-    let Ok(feed) = FeedWriter::open(alloc, plan.config, plan.keep) else {
+    let Ok(feed) = FeedWriter::open(alloc, plan.lines.config, plan.keep) else {
         return Status::NoMemory;
     };
     let Ok((desk, clerk, mut all)) = Desk::open(alloc, &feed, workers) else {
@@ -117,9 +117,9 @@ where
             requires { All (λ w. IsWorkerOf desk.queues w) all.now }
         { work_all(rt, &desk, &(), gate, all) },
         &mut ||
-            requires { IsNewSide service.desk.now.queues service.plan.now.config service.plan.now.keep side }
-            ensures ends { EndsOf is_bad at_least (workers_rules (dialect_of service.entry.plan.now.dialect) service.entry.plan.now.config
-                service.entry.plan.now.keep service.entry.plan.now.form) result.0
+            requires { IsNewSide service.desk.now.queues service.plan.now.lines.config service.plan.now.keep side }
+            ensures ends { EndsOf is_bad at_least (workers_rules (dialect_of service.entry.plan.now.lines.dialect) service.entry.plan.now.lines.config
+                service.entry.plan.now.keep service.entry.plan.now.lines.form) result.0
                 (S.left source.entry.now) (S.left source.exit.now) (K.taken out.entry.now) (K.taken out.exit.now) }
             ensures read_fault { result.0 ≡ Status.ReadFault → HasRisen (S.faults source.entry.now) (S.faults source.exit.now) }
             ensures write_fault { result.0 ≡ Status.WriteFault → HasRisen (K.faults out.entry.now) (K.faults out.exit.now) }
