@@ -16,6 +16,7 @@ pub mod Windows
 pub mod ShortWindows
 pub mod Repeated
 pub mod Bounds
+pub mod Backwards
 pub mod Begins
 pub mod Owing
 pub mod Rounds

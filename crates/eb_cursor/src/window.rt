@@ -27,8 +27,9 @@
 //! The walk holds for any number of position bits, since the end of the document bounds the reach.
 //! `window_below` stays a call, since inlined it took registers from the walk over a query's other
 //! parts.
-ghost use Rattle.std.specs.Prelude.{◌≡◌, ◌+◌, ◌*◌, ◌<◌, ◌≤◌, ◌^◌, length, bytes_eq};
+ghost use Rattle.std.specs.Prelude.{◌≡◌, ◌+◌, ◌-◌, ◌*◌, ◌<◌, ◌≤◌, ◌^◌, length, bytes_eq};
 ghost use Rattle.std.specs.List.{list_all};
+ghost use Rattle.std.specs.Bool.{MatchBool};
 ghost use Rattle.eb_base.specs.Query.{window};
 ghost use Rattle.eb_cursor.specs.Loads.{loads_left};
 ghost use Rattle.eb_cursor.specs.Posted as spec;
@@ -56,7 +57,6 @@ pub struct Span {
 // until the first can't be within `limit` places of the last. Two terms, which most windows have,
 // are asked here, without a call.
 #[inline(always)]
-#[cycle(span_below)]
 fn span_below<P: Port, L: Ledger>(
     limit: u64,
     cursors: &mut [Cursor],
@@ -100,7 +100,6 @@ fn span_below<P: Port, L: Ledger>(
 
 // Asks the terms after the first, most often a single one.
 #[inline(always)]
-#[cycle(span_below)]
 fn rest_below<P: Port, L: Ledger>(
     limit: u64,
     cursors: &mut [Cursor],
@@ -123,8 +122,25 @@ fn rest_below<P: Port, L: Ledger>(
     }
 }
 
-// Asks more than one term, by a call.
-#[cycle(span_below)]
+// One more than the greatest place of the last term below `end`, or 0. The other terms aren't
+// asked.
+fn last_below<P: Port, L: Ledger>(
+    cursors: &mut [Cursor],
+    port: &mut P,
+    steps: &mut Steps<L>,
+    end: u64,
+) -> u64
+    requires some { 0 < length cursors.old }
+    requires ready { CanAskBehind P.stands port.old cursors.old end }
+    ensures found { FindsLast P.stands P.keeps port.old port.new cursors.old cursors.new end result }
+    ensures loads { steps.new + loads_left cursors.new ≤ steps.old + loads_left cursors.old }
+{
+    let last = cursors.len() - 1;
+    leaf_below(&mut cursors[last], port, steps, end)
+}
+
+// Asks more than one term, by a call and in a loop, until the terms asked are too far apart for the
+// others, wherever these are.
 fn more_below<P: Port, L: Ledger>(
     limit: u64,
     cursors: &mut [Cursor],
@@ -137,7 +153,26 @@ fn more_below<P: Port, L: Ledger>(
     ensures found { FindsSpan P.stands P.keeps port.old port.new limit cursors.old cursors.new end result }
     ensures loads { steps.new + loads_left cursors.new ≤ steps.old + loads_left cursors.old }
 {
-    span_below(limit, cursors, port, steps, end)
+    let last = last_below(cursors, port, steps, end);
+    let mut first = last;
+    let mut at = cursors.len() - 1;
+    while is_within(limit, at as u64, first, last) {
+        at -= 1;
+        first = leaf_below(&mut cursors[at], port, steps, first - 1);
+    }
+    Span {
+        first: first.saturating_sub(at as u64),
+        last,
+    }
+}
+
+// Whether a term is left to be asked, those after it occur in their order, and all can be within
+// `limit` places.
+#[inline(always)]
+fn is_within(limit: u64, left: u64, first: u64, last: u64) -> bool
+    ensures { MatchBool result ((0 < left) × (0 < first) × (last ≤ first - left + limit)) (0 < left → 0 < first → first - left + limit < last) }
+{
+    left > 0 && first > 0 && last.saturating_sub(first.saturating_sub(left)) <= limit
 }
 
 // The end below which the last term of a window is whose first term is before `first`: at most
@@ -173,23 +208,6 @@ fn windows_below<P: Port, L: Ledger>(
         place = reached;
     }
     place
-}
-
-// One more than the greatest place of the last term below `end`, or 0. The other terms aren't
-// asked.
-fn last_below<P: Port, L: Ledger>(
-    cursors: &mut [Cursor],
-    port: &mut P,
-    steps: &mut Steps<L>,
-    end: u64,
-) -> u64
-    requires some { 0 < length cursors.old }
-    requires ready { CanAskBehind P.stands port.old cursors.old end }
-    ensures found { FindsLast P.stands P.keeps port.old port.new cursors.old cursors.new end result }
-    ensures loads { steps.new + loads_left cursors.new ≤ steps.old + loads_left cursors.old }
-{
-    let last = cursors.len() - 1;
-    leaf_below(&mut cursors[last], port, steps, end)
 }
 
 // Where the terms are below the last one's place in `span`, where all are one term: the last falls
