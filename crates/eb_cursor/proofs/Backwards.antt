@@ -52,17 +52,18 @@ room_before docs (t ∷ ts) zero end h = omega arith
 room_before docs (t ∷ ts) (suc i) end h =
     omega (arith, top_le (is_posting docs t) (number_before (first_below docs ts end)), before_is (first_below docs ts end), room_before docs ts i end (omega (arith, h)))
 
--- where no term is left to be asked, or the others can't be within the limit
-pub stops : (docs : List Doc) (ts : List (List ℕ)) (i end first last limit : ℕ) → i < length ts → first ≡ first_below docs (drop i ts) end
-    → (0 < i → 0 < first → first - i + limit < last)
+-- where no term is left to be asked, or the others can't be from a floor on that is the limit below the last
+pub stops : (docs : List Doc) (ts : List (List ℕ)) (i end first last limit floor : ℕ) → i < length ts → first ≡ first_below docs (drop i ts) end
+    → floor ≡ last - limit → (0 < i → 0 < first → first - i < floor)
     → (first_below docs ts end ≤ first - i) × (last ≤ first - i + limit → first - i ≡ first_below docs ts end)
-stops docs ts zero end first last limit h e far = (omega (arith, e), λ near. omega (arith, e))
-stops docs ts (suc i) end zero last limit h e far =
-    let low = room_before docs ts (suc i) end h in (omega (arith, low, e), λ near. omega (arith, low, e))
-stops docs ts (suc i) end (suc first) last limit h e far =
+stops docs ts zero end first last limit floor h e f far = (omega (arith, e), λ near. omega (arith, e))
+stops docs ts (suc i) end zero last limit floor h e f far =
     let low = room_before docs ts (suc i) end h in
-    let over = far (omega arith) (omega arith) in
-    (omega (arith, low, e), λ near. absurd (omega (arith, near, over)))
+    (omega (arith, low, e), λ near. omega (arith, low, e))
+stops docs ts (suc i) end (suc first) last limit floor h e f far =
+    let low = room_before docs ts (suc i) end h in
+    let under = far (omega arith) (omega arith) in
+    (omega (arith, low, e), λ near. absurd (omega (arith, near, f, under)))
 
 -- the last leaf was asked
 pub begins : (g : Gives) (docs : List Doc) (ts : List (List ℕ)) (cursors : List Cursor) (end last : ℕ) → 0 < length cursors → AllBehind g docs ts cursors end
