@@ -1,5 +1,5 @@
 #!/usr/bin/env python3
-"""compare.py BEFORE AFTER [--inputs N] [--seed N] [--feed PROGRAM]
+"""compare.py BEFORE AFTER [--inputs N] [--repeated N] [--seed N] [--feed PROGRAM]
 
 Runs two builds of the program on the same made inputs, in each way to run, and compares byte for byte what they print, what
 they say on their error output, and their status. Ends with 1 at the first difference, and leaves that input in a file.
@@ -7,13 +7,20 @@ they say on their error output, and their status. Ends with 1 at the first diffe
 With --overlap and --workers the bytes of an input settle all but how many messages an answer saw; so there all messages stand
 before all queries, which settles that too. --feed names the program that BEFORE is for feeds, where that is one of its own: it
 takes the words behind `feed`.
+
+Behind these, AFTER answers N queries (500) of words, phrases and windows of up to 64 terms that repeat few words, over messages
+that do so too, and a plain scan says what is to be printed (crates/golden_runs/plain.py).
 """
 import argparse
 import json
+import os
 import random
 import subprocess
 import sys
 import tempfile
+
+sys.path.insert(0, os.path.join(os.path.dirname(os.path.abspath(__file__)), "..", "crates", "golden_runs"))
+import plain
 
 WORDS = "rain berlin sunset march tram late Straße STRASSE can't believe 🌅 train vienna é e\u0301 ß 42 1,024 a b c d".split()
 SETTINGS = [[], ["--segments", "1"], ["--segments=2", "--docs=3"], ["--docs", "40", "--segments", "3"]]
@@ -126,6 +133,104 @@ def case(rng, at):
     return words, lines(rng, False, False, False), None
 
 
+FEW = "a b c".split()
+HOLDING = [["--terms", "1024"], ["--terms", "1024", "--segments", "64", "--docs", "2"]]
+
+
+def repeating(rng, count):
+    """This many words: units of few words, each some times in a row, and at times another word between."""
+    few, made = FEW[: rng.randrange(1, 4)], []
+    while len(made) < count:
+        unit = [rng.choice(few) for _ in range(rng.choice([1, 1, 2, 2, 3, 5]))]
+        made += unit * rng.choice([1, 2, 4, 16, 31, 32, 64])
+        made += [rng.choice(FEW)] if rng.random() < 0.7 else []
+    return made[:count]
+
+
+def window(terms, reach):
+    """The plain scan of a window: from each place of its first term, each other term at the next place where it is."""
+
+    def last(words, place):
+        for term in terms[1:]:
+            place = next((at for at in range(place + 1, len(words)) if words[at] == term), None)
+            if place is None:
+                return None
+        return place
+
+    def within(words, place):
+        end = last(words, place)
+        return end is not None and end - place <= reach
+
+    return lambda doc, words: any(words[place] == terms[0] and within(words, place) for place in range(len(words)))
+
+
+def repeated_part(rng, most):
+    """A part of a query of at most so many terms, how many it has, and its plain scan."""
+    terms = repeating(rng, min(most, rng.choice([1, 2, 2, 3, 3, 4, 5, 8, 16, 31, 32, 62, 63, 64])))
+    count, told = len(terms), " ".join(terms)
+    if count == 1:
+        return terms[0], 1, plain.word(terms[0])
+    if rng.random() < 0.25:
+        return '"%s"' % told, count, plain.phrase(told)
+    reach = max(1, min(1023, rng.choice([count - 2, count - 1, count - 1, count, count + 1, count + rng.randrange(count + 1), 2 * count, 1023])))
+    return '"%s"~%d' % (told, reach), count, window(terms, reach)
+
+
+def repeated_query(rng):
+    """A query of at most 64 parts, and its plain scan."""
+    first, size, scan = repeated_part(rng, 64)
+    pick = rng.random()
+    if pick < 0.6 or size > 60:
+        return first, scan
+    second, _, other = repeated_part(rng, 62 - size)
+    if pick < 0.75:
+        return "%s %s" % (first, second), plain.each(scan, other)
+    if pick < 0.9:
+        return "%s OR %s" % (first, second), plain.some(scan, other)
+    return "%s -%s" % (first, second), plain.each(scan, plain.without(other))
+
+
+def repeated(rng, asked_for):
+    """The words of a command line, the lines of an input with this many queries, and what is to be printed."""
+    documents, given, wanted = [], [], []
+    for _ in range(rng.randrange(1, 25)):
+        documents.append((len(documents) * 7, repeating(rng, rng.choice([1, 2, 5, 40, 63, 64, 65, 200, 1023, 1024]))))
+        given.append(plain.LINE % (documents[-1][0], " ".join(documents[-1][1])))
+    for _ in range(asked_for):
+        told, scan = repeated_query(rng)
+        k = rng.choice([1, 3, 1000])
+        given.append("?%d %s" % (k, told))
+        wanted.append(plain.answer(len(given), documents, k, scan))
+        if rng.random() < 0.3:
+            documents.append((len(documents) * 7, repeating(rng, rng.choice([2, 64, 300]))))
+            given.append(plain.LINE % (documents[-1][0], " ".join(documents[-1][1])))
+    wanted.append("end: documents %d, queries %d, refused 0" % (len(documents), asked_for))
+    return ["run", *rng.choice(HOLDING)], given, wanted
+
+
+def differs_from_plain(program, queries, seed):
+    """Asks this many queries with repeated words; prints the first answer that a plain scan doesn't come to, and whether there is one."""
+    asked_so_far = 0
+    while asked_so_far < queries:
+        rng = random.Random("repeated %d %d" % (seed, asked_so_far))
+        count = min(10, queries - asked_so_far)
+        words, given, wanted = repeated(rng, count)
+        status, printed, said = run(program, words, "".join(line + "\n" for line in given).encode())
+        lines_printed = printed.decode().splitlines()
+        if status or said or lines_printed != wanted:
+            with tempfile.NamedTemporaryFile("w", prefix="compare-", suffix=".input", delete=False) as left:
+                left.write("".join(line + "\n" for line in given))
+            print(f"{' '.join(words)} < {left.name}: status {status}, {said!r:.200}")
+            for line, plainly in zip(lines_printed, wanted):
+                if line != plainly:
+                    print(f"printed: {line:.1000}\nplainly: {plainly:.1000}")
+                    break
+            return True
+        asked_so_far += count
+    print(f"{queries} queries with repeated words, as a plain scan answers")
+    return False
+
+
 def run(program, words, given):
     ran = subprocess.run([program, *words], input=given, capture_output=True, timeout=120)
     return ran.returncode, ran.stdout, ran.stderr
@@ -136,6 +241,7 @@ def main():
     words.add_argument("before")
     words.add_argument("after")
     words.add_argument("--inputs", type=int, default=2000)
+    words.add_argument("--repeated", type=int, default=500, metavar="N", help="queries with repeated words (500)")
     words.add_argument("--seed", type=int, default=1)
     words.add_argument("--feed")
     asked_for = words.parse_args()
@@ -168,7 +274,7 @@ def main():
         key = f"{words_of[0]} {words_of[1]}" if words_of[0] == "run" and words_of[1] in ("--overlap", "--workers", "--parts", "--watch") else words_of[0]
         counts[key] = counts.get(key, 0) + 1
     print(f"{asked_for.inputs} inputs, the same byte for byte: " + ", ".join(f"{key} {n}" for key, n in sorted(counts.items())))
-    return 0
+    return int(differs_from_plain(asked_for.after, asked_for.repeated, asked_for.seed))
 
 
 if __name__ == "__main__":
