@@ -24,14 +24,15 @@ loop-left-preserved g c = record {
   loads = omega (
     arith,
     c.loop-left.invariant.loads,
-    loads_at c.loop-left.cursors _ c.leaf_below-first.new.cursor (c.loop-left.left - 1) c.loop-left.steps c.leaf_below-first.new.steps (omega (arith, c.loop-left.invariant.within)) c.leaf_below-first.ensures.loads,
+    loads_at c.loop-left.cursors _ c.leaf_below-first.new.cursor (c.loop-left.left - 1) c.loop-left.steps c.leaf_below-first.new.steps
+        (omega (arith, c.loop-left.invariant.within)) c.leaf_below-first.ensures.loads,
   );
   found = λ docs ts. told_on g.met.P.Port.lawful g.met.P.Port.keeps_on (c.loop-left.invariant.found docs ts)
       (c.leaf_below-first.ensures.found (is_posting docs (get_or ts (c.loop-left.left - 1) [])))
       (λ m r. r)
       (λ l m w r x. asks_at (gives m) docs ts c.loop-left.cursors _ c.loop-left.left c.loop-left.first c.args.end c.loop-left-test.ensures.0 c.loop-left.invariant.within x)
-      (λ l m n w v r x y. told_at (gives m) (gives n) (gives_later m n v) docs ts c.loop-left.cursors c.leaf_below-first.new.cursor c.loop-left.left c.loop-left.first c.args.end c.leaf_below-first.result
-      c.loop-left-test.ensures.0 c.loop-left.invariant.within x y);
+      (λ l m n w v r x y. told_at (gives m) (gives n) (gives_later m n v) docs ts c.loop-left.cursors c.leaf_below-first.new.cursor c.loop-left.left c.loop-left.first c.args.end
+      c.leaf_below-first.result c.loop-left-test.ensures.0 c.loop-left.invariant.within x y);
 }
 
 pub returns-clause-found : goal.returns-clause-found
@@ -44,5 +45,6 @@ returns-clause-found g c = λ docs us last h.
     ))
     (λ l m n w v r x y.
     let within : c.loop-left.left < length us = omega (arith, c.loop-left.invariant.within, behind_length (gives n) docs us c.loop-left.cursors c.args.end y.0) in
-    let s = stops docs us c.loop-left.left c.args.end c.loop-left.first c.last_below-last.result c.args.limit c.saturating_sub-floor.result within y.1 c.saturating_sub-floor.ensures c.loop-left-test.ensures in
+    let s = stops docs us c.loop-left.left c.args.end c.loop-left.first c.last_below-last.result c.args.limit c.saturating_sub-floor.result
+    within y.1 c.saturating_sub-floor.ensures c.loop-left-test.ensures in
     (omega (arith, s.0, c.saturating_sub.ensures), λ near. c.saturating_sub.ensures ∙ s.1 (omega (arith, near, c.saturating_sub.ensures)), x.0, y.0))
