@@ -5,7 +5,7 @@ use Rattle.eb_cursor.proofs.Backwards.{begins, asks_at, told_at, stops}
 use Rattle.eb_cursor.proofs.Repeated.{loads_at}
 use Rattle.eb_cursor.proofs.Tellings.{told_on, gives_later}
 use Rattle.eb_cursor.proofs.Windows.{behind_length}
-use Rattle.eb_cursor.proofs.window.more_below.Goals as goal
+use Rattle.eb_cursor.proofs.window.many_below.Goals as goal
 
 pub leaf_below-first-requires : goal.leaf_below-first-requires
 leaf_below-first-requires g c = let r = c.requires.ready in

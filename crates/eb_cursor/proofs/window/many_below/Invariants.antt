@@ -5,7 +5,7 @@ use Rattle.eb_cursor.specs.Lists.{gives}
 use Rattle.eb_cursor.specs.Loads.{loads_left}
 use Rattle.eb_cursor.specs.Posted.{first_below}
 use Rattle.eb_cursor.specs.Ready.{AllBehind}
-use Rattle.eb_cursor.proofs.window.more_below.Given as goal
+use Rattle.eb_cursor.proofs.window.many_below.Given as goal
 
 abbrev pub decreases-loop-left : goal.decreases-loop-left
 decreases-loop-left g l = l.left
