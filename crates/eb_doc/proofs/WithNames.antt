@@ -7,7 +7,7 @@ use Rattle.eb_fields.specs.Dialect.{Dialect, plain}
 use Rattle.eb_doc.specs.declared.LineFault.TheVariants.{TooLong, NoMemory}
 use Rattle.eb_doc.specs.DocumentLine.{value_of, number_in, string_in, message, with_members, with_value, document_of}
 use Rattle.eb_doc.specs.FieldTerms.{field_terms, has_long_value}
-use Rattle.eb_doc.specs.WithFields.{id_name, text_name, id_in, text_in, message_with, read_with, document_with}
+use Rattle.eb_doc.specs.WithFields.{id_in, text_in, message_with, read_with, document_with}
 use Rattle.eb_doc.specs.Laws.{InPlain}
 use Rattle.eb_doc.specs.Looked.{IsLook}
 use Rattle.eb_doc.specs.declared.look.Look.{Look}
@@ -54,6 +54,6 @@ document_with-no_memory d line = go (value_of line)
     go None h = let no : ⊥ = cc in no
     go (Some v) h = no_memory_with d v (id_in d v) (text_in d v) h
 
--- what is seen of a line by names that are the dialect's
-pub as_look : (how : Dialect) (seen look : Look) (value : Option Data) → seen ≡ look → IsLook (id_name how) (text_name how) seen value → IsLook (id_name how) (text_name how) look value
+-- what is seen of a line
+pub as_look : (how : Dialect) (seen look : Look) (value : Option Data) → seen ≡ look → IsLook how seen value → IsLook how look value
 as_look how seen look value g h = rw (← g) h

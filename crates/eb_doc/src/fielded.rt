@@ -16,11 +16,11 @@ use std::alloc::Global;
 // The document that a line is, by its value.
 pub(crate) fn read_with_fields(
     alloc: Global,
-    dialect: Dialect<'_>,
+    dialect: &Dialect<'_>,
     line: &[u8],
 ) -> Result<Document, LineFault>
-    ensures document { IfOk result (λ document. document_with (dialect_of dialect.entry) line.now ≡ Ok document) }
-    ensures refused { IfErr result (λ fault. (fault ≡ LineFault.NoMemory) ⊎ (document_with (dialect_of dialect.entry) line.now ≡ Err fault)) }
+    ensures document { IfOk result (λ document. document_with (dialect_of dialect.now) line.now ≡ Ok document) }
+    ensures refused { IfErr result (λ fault. (fault ≡ LineFault.NoMemory) ⊎ (document_with (dialect_of dialect.now) line.now ≡ Err fault)) }
 {
     match read_value(alloc, line) {
         Ok(value) => fielded_document(alloc, dialect, &value),
@@ -31,12 +31,12 @@ pub(crate) fn read_with_fields(
 // The document that a value is.
 fn fielded_document(
     alloc: Global,
-    dialect: Dialect<'_>,
+    dialect: &Dialect<'_>,
     value: &Value,
 ) -> Result<Document, LineFault>
-    ensures document { IfOk result (λ document. read_with (dialect_of dialect.entry) (Some (view value.now)) ≡ Ok document) }
+    ensures document { IfOk result (λ document. read_with (dialect_of dialect.now) (Some (view value.now)) ≡ Ok document) }
     ensures refused { IfErr result (λ fault.
-        (fault ≡ LineFault.NoMemory) ⊎ (read_with (dialect_of dialect.entry) (Some (view value.now)) ≡ Err fault)) }
+        (fault ≡ LineFault.NoMemory) ⊎ (read_with (dialect_of dialect.now) (Some (view value.now)) ≡ Err fault)) }
 {
     let id = id_in(dialect, value).ok_or(LineFault::BadDocument)?;
     let text = text_in(dialect, value).ok_or(LineFault::BadDocument)?;

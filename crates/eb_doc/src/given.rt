@@ -6,8 +6,8 @@ ghost use Rattle.eb_fields.specs.Dialect.{dialect_of};
 ghost use Rattle.eb_fields.specs.Fields.{names};
 ghost use Rattle.eb_doc.specs.DocumentLine as line;
 ghost use Rattle.eb_doc.specs.WithFields as spec;
-ghost use Rattle.eb_doc.specs.WithFields.{id_name, text_name, read_with};
-ghost use Rattle.eb_doc.specs.Seen.{ShowsMember, ShowsMembers};
+ghost use Rattle.eb_doc.specs.WithFields.{read_with};
+ghost use Rattle.eb_doc.specs.Seen.{ShowsMembers, seen_id};
 ghost use Rattle.eb_fields.specs.Given.{told_text};
 
 use crate::seen::{Members, Seen};
@@ -41,11 +41,11 @@ fn given_id(number: Option<u64>, string: Option<&str>) -> Option<u64>
     }
 }
 
-// The id that a member is of which this is seen.
-fn id_by(dialect: Dialect<'_>, seen: Seen<'_>) -> Option<u64>
-    ensures { (d : Data) → ShowsMember (id_name (dialect_of dialect.entry)) seen.entry d → result ≡ spec.id_in (dialect_of dialect.entry) d }
+// The id that a value is of which this is seen, where the id's member has this name.
+pub(crate) fn id_by(given: Option<&str>, seen: &Seen<'_>) -> Option<u64>
+    ensures { result ≡ seen_id (told_text given.entry) seen.now }
 {
-    match dialect.id {
+    match given {
         Some(_name) => given_id(seen.number, seen.string),
         None => seen.number,
     }
@@ -54,19 +54,19 @@ fn id_by(dialect: Dialect<'_>, seen: Seen<'_>) -> Option<u64>
 // The document of an object of which this is seen, where there is no field.
 pub(crate) fn document_by(
     alloc: Global,
-    dialect: Dialect<'_>,
+    dialect: &Dialect<'_>,
     found: Members<'_>,
 ) -> Result<Document, LineFault>
-    requires { names dialect.fields ≡ [] }
-    ensures document { let how = dialect_of dialect.entry in
-        IfOk result (λ document. (d : Data) → ShowsMembers (id_name how) (text_name how) found.entry d → read_with how (Some d) ≡ Ok document) }
-    ensures refused { let how = dialect_of dialect.entry in IfErr result (λ fault.
-        (fault ≡ LineFault.NoMemory) ⊎ ((d : Data) → ShowsMembers (id_name how) (text_name how) found.entry d → read_with how (Some d) ≡ Err fault)) }
+    requires { names dialect.now.fields ≡ [] }
+    ensures document { let how = dialect_of dialect.now in
+        IfOk result (λ document. (d : Data) → ShowsMembers how found.entry d → read_with how (Some d) ≡ Ok document) }
+    ensures refused { let how = dialect_of dialect.now in IfErr result (λ fault.
+        (fault ≡ LineFault.NoMemory) ⊎ ((d : Data) → ShowsMembers how found.entry d → read_with how (Some d) ≡ Err fault)) }
 {
-    let Some(id) = id_by(dialect, found.id) else {
+    let Some(id) = found.id else {
         return Err(LineFault::BadDocument);
     };
-    let Some(text) = found.text.string else {
+    let Some(text) = found.text else {
         return Err(LineFault::BadDocument);
     };
     let terms = tokens_by(alloc, dialect.cut, text)?;
@@ -88,8 +88,8 @@ fn string_in<'a>(name: &str, value: &'a Value) -> Option<&'a str>
 }
 
 // The id of a document's value.
-pub(crate) fn id_in(dialect: Dialect<'_>, value: &Value) -> Option<u64>
-    ensures { result ≡ spec.id_in (dialect_of dialect.entry) (view value.now) }
+pub(crate) fn id_in(dialect: &Dialect<'_>, value: &Value) -> Option<u64>
+    ensures { result ≡ spec.id_in (dialect_of dialect.now) (view value.now) }
 {
     match dialect.id {
         Some(name) => given_id(number_in(name, value), string_in(name, value)),
@@ -98,8 +98,8 @@ pub(crate) fn id_in(dialect: Dialect<'_>, value: &Value) -> Option<u64>
 }
 
 // The text of a document's value.
-pub(crate) fn text_in<'a>(dialect: Dialect<'_>, value: &'a Value) -> Option<&'a str>
-    ensures { told_text result ≡ spec.text_in (dialect_of dialect.entry) (view value.now) }
+pub(crate) fn text_in<'a>(dialect: &Dialect<'_>, value: &'a Value) -> Option<&'a str>
+    ensures { told_text result ≡ spec.text_in (dialect_of dialect.now) (view value.now) }
 {
     string_in(name_or(dialect.text, "text"), value)
 }

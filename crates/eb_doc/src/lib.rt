@@ -118,17 +118,17 @@ impl DocumentReader {
             (fault ≡ LineFault.NoMemory) ⊎ (document_with (dialect_of dialect.entry) line.now ≡ Err fault)) }
     {
         if dialect.fields.is_none() {
-            return self.read_quickly(dialect, line);
+            return self.read_quickly(&dialect, line);
         }
-        read_with_fields(self.alloc, dialect, line)
+        read_with_fields(self.alloc, &dialect, line)
     }
 
     // The document that a line is where there is no field, by what is seen of its members.
-    fn read_quickly(&mut self, dialect: Dialect<'_>, line: &[u8]) -> Result<Document, LineFault>
-        requires { names dialect.fields ≡ [] }
-        ensures document { IfOk result (λ document. document_with (dialect_of dialect.entry) line.now ≡ Ok document) }
+    fn read_quickly(&mut self, dialect: &Dialect<'_>, line: &[u8]) -> Result<Document, LineFault>
+        requires { names dialect.now.fields ≡ [] }
+        ensures document { IfOk result (λ document. document_with (dialect_of dialect.now) line.now ≡ Ok document) }
         ensures refused { IfErr result (λ fault.
-            (fault ≡ LineFault.NoMemory) ⊎ (document_with (dialect_of dialect.entry) line.now ≡ Err fault)) }
+            (fault ≡ LineFault.NoMemory) ⊎ (document_with (dialect_of dialect.now) line.now ≡ Err fault)) }
     {
         match look_at(line, &mut self.scratch, dialect) {
             Ok(Look::Object(found)) => document_by(self.alloc, dialect, found),

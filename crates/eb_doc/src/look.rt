@@ -2,7 +2,6 @@
 ghost use Rattle.std.specs.Prelude.{◌≡◌, IfOk};
 ghost use Rattle.eb_doc.specs.DocumentLine.{value_of};
 ghost use Rattle.eb_doc.specs.Looked.{IsLook};
-ghost use Rattle.eb_doc.specs.WithFields.{id_name, text_name};
 ghost use Rattle.eb_fields.specs.Dialect.{dialect_of};
 
 use crate::members::read_members;
@@ -27,9 +26,9 @@ pub(crate) enum Look<'a> {
 pub(crate) fn look_at<'a>(
     line: &'a [u8],
     scratch: &'a mut Scratch,
-    dialect: Dialect<'_>,
+    dialect: &Dialect<'_>,
 ) -> Result<Look<'a>, NoMemory>
-    ensures { let how = dialect_of dialect.entry in IfOk result (λ look. IsLook (id_name how) (text_name how) look (value_of line.now)) }
+    ensures { IfOk result (λ look. IsLook (dialect_of dialect.now) look (value_of line.now)) }
 {
     let Ok(text) = str::from_utf8(line) else {
         return Ok(Look::NoJson);

@@ -4,13 +4,14 @@ ghost use Rattle.json.specs.Json.{value, members};
 ghost use Rattle.serde_json.specs.Data.{object, no_members};
 ghost use Rattle.serde_json.specs.Data as values;
 ghost use Rattle.serde_json.specs.Read.{of_members, converted};
-ghost use Rattle.eb_doc.specs.Seen.{Shows, ShowsMember, ShowsMembers};
-ghost use Rattle.eb_doc.specs.WithFields.{id_name, text_name};
+ghost use Rattle.eb_doc.specs.Seen.{Shows, ShowsMembers};
+ghost use Rattle.eb_doc.specs.WithFields.{id_in, text_in};
 ghost use Rattle.eb_fields.specs.Dialect.{dialect_of};
 ghost use Rattle.eb_fields.specs.Given.{told_text};
 
+use crate::given::id_by;
 use crate::passing::pass;
-use crate::seen::{Members, NEITHER, Seen};
+use crate::seen::{Members, Seen};
 use eb_fields::Dialect;
 use json::Reader;
 
@@ -19,16 +20,16 @@ use json::Reader;
 pub(crate) fn read_members<'a>(
     reader: &mut Reader<'a>,
     depth: usize,
-    dialect: Dialect<'_>,
+    dialect: &Dialect<'_>,
 ) -> Option<Members<'a>>
     ensures ok { IfSome result (λ found. (ms : values.Members)
         × (converted (λ js. of_members js no_members) (members (value depth) (length reader.old) reader.old) ≡ Some (ms, reader.new))
-        × ShowsMembers (id_name (dialect_of dialect.entry)) (text_name (dialect_of dialect.entry)) found (object ms)) }
+        × ShowsMembers (dialect_of dialect.now) found (object ms)) }
     ensures err { IfNone result (converted (λ js. of_members js no_members) (members (value depth) (length reader.old) reader.old) ≡ None) }
 {
     let mut found = Members {
-        id: NEITHER,
-        text: NEITHER,
+        id: None,
+        text: None,
     };
     'members: loop {
         let Ok(key) = reader.next_key() else {
@@ -40,9 +41,18 @@ pub(crate) fn read_members<'a>(
         let Some(seen) = pass(reader, depth) else {
             return None;
         };
-        see_member(dialect.id, "id", &mut found.id, name, seen);
-        see_member(dialect.text, "text", &mut found.text, name, seen);
+        see_id(dialect, &mut found.id, name, &seen);
+        see_text(dialect, &mut found.text, name, &seen);
     }
+}
+
+// Whether this is the name that is given. It stands in no caller's code, so that a line costs
+// nothing for it where no name is given.
+#[inline(never)]
+fn is_own(name: &str, own: &str) -> bool
+    ensures { result ≡ bytes_eq name.now own.now }
+{
+    name == own
 }
 
 // Whether this is the given name, or the usual one where none is given. The usual one stands in the
@@ -52,26 +62,33 @@ fn is_named(name: &str, given: Option<&str>, usual: &str) -> bool
     ensures { result ≡ bytes_eq name.now (unwrap_or (told_text given.entry) usual.now) }
 {
     match given {
-        Some(own) => name == own,
+        Some(own) => is_own(name, own),
         None => name == usual,
     }
 }
 
-// Sees one more member of an object, which counts in place of an earlier one of its name, where it has
-// the given name, or the usual one where none is given.
+// Sees one more member of an object, which is the id in place of an earlier one of its name, where
+// it has the id's name.
 #[inline(always)]
-fn see_member<'a>(
-    given: Option<&str>,
-    usual: &str,
-    found: &mut Seen<'a>,
-    name: &str,
-    seen: Seen<'a>,
-)
-    ensures { let looked = unwrap_or (told_text given.entry) usual.now in
-        (ms : values.Members) (d : values.Data) → ShowsMember looked found.old (object ms) → Shows seen.entry d
-        → ShowsMember looked found.new (object (values.put name.now d ms)) }
+fn see_id(dialect: &Dialect<'_>, found: &mut Option<u64>, name: &str, seen: &Seen<'_>)
+    ensures { let how = dialect_of dialect.now in
+        (ms : values.Members) (d : values.Data) → found.old ≡ id_in how (object ms) → Shows seen.now d
+        → found.new ≡ id_in how (object (values.put name.now d ms)) }
 {
-    if is_named(name, given, usual) {
-        *found = seen;
+    if is_named(name, dialect.id, "id") {
+        *found = id_by(dialect.id, seen);
+    }
+}
+
+// Sees one more member of an object, which is the text in place of an earlier one of its name, where
+// it has the text's name.
+#[inline(always)]
+fn see_text<'a>(dialect: &Dialect<'_>, found: &mut Option<&'a str>, name: &str, seen: &Seen<'a>)
+    ensures { let how = dialect_of dialect.now in
+        (ms : values.Members) (d : values.Data) → told_text found.old ≡ text_in how (object ms) → Shows seen.now d
+        → told_text found.new ≡ text_in how (object (values.put name.now d ms)) }
+{
+    if is_named(name, dialect.text, "text") {
+        *found = seen.string;
     }
 }

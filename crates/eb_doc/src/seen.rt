@@ -7,15 +7,16 @@ pub(crate) struct Seen<'a> {
     pub string: Option<&'a str>,
 }
 
-// Of a value that is neither, and of a member that is missing.
+// Of a value that is neither.
 pub(crate) const NEITHER: Seen<'static> = Seen {
     number: None,
     string: None,
 };
 
-// What is seen of an object: its last member with the id's name, and its last one with the text's.
+// What is seen of an object: the id that its last member with the id's name is, and the string that
+// its last member with the text's name is.
 #[derive(Clone, Copy)]
 pub(crate) struct Members<'a> {
-    pub id: Seen<'a>,
-    pub text: Seen<'a>,
+    pub id: Option<u64>,
+    pub text: Option<&'a str>,
 }

@@ -3,10 +3,12 @@ use Rattle.json.specs.Json.{read_key, value}
 use Rattle.json.proofs.Grammar.{read_key-shorter}
 use Rattle.serde_json.specs.Data.{no_members, put}
 use Rattle.eb_doc.proofs.Values.{member_read, member_refused, key_refused, members_over}
+use Rattle.eb_fields.specs.Given.{told_text}
+use Rattle.eb_doc.proofs.Named.{no_id}
 use Rattle.eb_doc.proofs.members.read_members.Goals as goal
 
 pub members-init : goal.members-init
-members-init c = (length c.args.reader.now, omega arith, (no_members, refl, record { id = record { number = refl; string = refl }; text = record { number = refl; string = refl } }))
+members-init c = (length c.args.reader.now, omega arith, (no_members, refl, record { id = no_id (told_text c.args.dialect.now.id); text = refl }))
 
 pub returns-in_default-clause-err : goal.returns-in_default-clause-err
 returns-in_default-clause-err c =
@@ -39,7 +41,7 @@ members-preserved c =
       (
         put k d old,
         l.invariant.2.1 ∙ member_read p old n k l.reader s r d (omega (arith, l.invariant.1, less)) named done.ok.1,
-        record { id = c.see_member.ensures old d l.invariant.2.2.id done.ok.2; text = c.see_member-in-members.ensures old d l.invariant.2.2.text done.ok.2 },
+        record { id = c.see_id.ensures old d l.invariant.2.2.id done.ok.2; text = c.see_text.ensures old d l.invariant.2.2.text done.ok.2 },
       ),
     )
 
