@@ -15,6 +15,9 @@ Then each class once more over 20,000 documents in one segment, which holds them
 document in the next, which closes it, so that it is read from packed lists. And so of leaps: the word `a` stands in each of these
 documents, and another word in each n-th of them; an And of both passes n postings of `a` for each match.
 
+And each class over 10,080 documents in many small segments, 63 of an index and 51 of a feed, of which the last is open; and beside
+these an And of two words that some segments have, and none has both.
+
 Prints JSON, and writes it to bench/results/ with the date and the commit; --table prints such a file as the tables of
 docs/PERFORMANCE.md. Takes some minutes, and wants valgrind and objdump; it is no part of the gate.
 """
@@ -35,6 +38,11 @@ SETTINGS = ["--segments", "12", "--docs", "20000", "--terms", "65536"]
 QUERIED = ["--segments", "12", "--docs", "4000", "--terms", "65536"]
 QUERIED_DOCUMENTS = 20_000
 ONE_SEGMENT = ["--segments", "2", "--docs", "20000", "--terms", "65536"]
+SMALL = {  # the words of a run, and how many documents a segment of it has
+    "63 segments": (["run", "--segments", "64", "--docs", "160", "--terms", "4096"], 160),
+    "a feed": (["feed", "--segments", "48", "--docs", "200", "--terms", "4096"], 200),
+}
+SMALL_DOCUMENTS = 63 * 160
 LEAPS = [1, 3, 10, 30, 100, 1_000, 10_000]
 LEAP_QUERIES = 200
 
@@ -51,9 +59,14 @@ def document(number, words):
     return '{"id":%d,"text":"%s"}\n' % (number, " ".join(words))
 
 
-def zipf_lines(count):
+def zipf_ranks(count):
+    """The ranks of the words of Zipf documents."""
     zipf = Zipf(100_000, 1)
-    return "".join(document(m, [spelled(zipf.rank()) for _ in range(15)]) for m in range(count))
+    return [[zipf.rank() for _ in range(15)] for _ in range(count)]
+
+
+def zipf_lines(count):
+    return "".join(document(m, map(spelled, ranks)) for m, ranks in enumerate(zipf_ranks(count)))
 
 
 def made_lines(count):
@@ -76,6 +89,21 @@ def queries(kind, count):
 
 
 KINDS = ["a rare word", "a common word", "both of two", "one of two", "a phrase", "a window"]
+
+
+def apart(count, size):
+    """Query lines of two words each that stand in some segments of this many documents, and never both in one."""
+    segments = {}
+    for m, ranks in enumerate(zipf_ranks(SMALL_DOCUMENTS)):
+        for rank in ranks:
+            segments.setdefault(rank, set()).add(m // size)
+    chance, found = random.Random(4), []
+    some = sorted(rank for rank in segments if 200 <= rank < 5_000)
+    while len(found) < count:
+        one, other = chance.choice(some), chance.choice(some)
+        if not segments[one] & segments[other]:
+            found.append("?10 %s %s\n" % (spelled(one), spelled(other)))
+    return "".join(found)
 
 
 def leap_lines(count):
@@ -144,6 +172,16 @@ def live_and_packed(count, held, asked, times):
     return told
 
 
+def in_small_segments(count, asked, times):
+    """What a query takes over many small segments, of each of these query texts."""
+    told, held = {}, zipf_lines(SMALL_DOCUMENTS)
+    for name, (words, size) in SMALL.items():
+        before = count(words, held)
+        texts = {**asked, "both of two, apart": apart(times, size)}
+        told[name] = {kind: each(count(words, held + text), before, times)["instructions"] for kind, text in texts.items()}
+    return told
+
+
 def result_before(path):
     """The newest result of the folder that is older than this one, if there is one."""
     older = [it for it in sorted(glob.glob(os.path.join(os.path.dirname(path), "instructions-*.json"))) if it < path]
@@ -170,18 +208,27 @@ def table(told, before=None):
     lines += both_kinds("A query", told["classes"], before and before["classes"])
     lines += ["", filled("An And of a word in each document and one in each n-th, for the newest 100, a match:"), ""]
     lines += both_kinds("n", told["leaps"], before and before["leaps"])
+    if "small" in told:
+        words = "%s documents in segments of 160, and in a feed with segments of 200; in the last row no segment has both words:"
+        lines += ["", filled("Over " + words % number(SMALL_DOCUMENTS)), ""]
+        lines += side_by_side("A query", told["small"], before and before.get("small"))
     return "\n".join(lines)
 
 
 def both_kinds(head, found, before):
     """A table of what was found over live and over packed lists."""
+    to_live = {name: "%.2f" % (found["packed"][name] / live) for name, live in found["live"].items()}
+    return side_by_side(head, found, before, {"packed to live": to_live})
+
+
+def side_by_side(head, found, before, more={}):
+    """A table of what was found in some states, with more columns, and with what was found before."""
     number = "{:,}".format
-    heads = [head, "live", "packed", "packed to live"] + ["live before", "packed before"] * bool(before)
+    heads = [head, *found, *more] + ["%s before" % state for state in found] * bool(before)
     lines = ["| %s |" % " | ".join(heads), "|%s" % ("---|" * len(heads))]
-    for name, live in found["live"].items():
-        packed = found["packed"][name]
-        cells = [name, number(live), number(packed), "%.2f" % (packed / live)]
-        cells += [number(before[kind][name]) for kind in ("live", "packed")] if before else []
+    for name in next(iter(found.values())):
+        cells = [name, *(number(of[name]) for of in found.values()), *(of[name] for of in more.values())]
+        cells += [number(before[state][name]) for state in found] if before else []
         lines.append("| %s |" % " | ".join(cells))
     return lines
 
@@ -208,6 +255,7 @@ def main():
     matches = {str(n): min(100, QUERIED_DOCUMENTS // n) for n in LEAPS}
     leaps = live_and_packed(count, leap_lines(QUERIED_DOCUMENTS), {str(n): "?100 a b%d\n" % n * LEAP_QUERIES for n in LEAPS}, LEAP_QUERIES)
     told["leaps"] = {state: {name: round(it / matches[name]) for name, it in whole.items()} for state, whole in leaps.items()}
+    told["small"] = in_small_segments(lambda words, text: counted(given.program, words, text), asked, given.queries)
     result_files.keep(told, "instructions-", given.out)
     print(table(told))
 
