@@ -13,7 +13,7 @@ COLUMNS = ("lines and texts", "the index", "over both")
 BOXES = {
     "Lines and queries": "eb_base eb_io eb_text eb_fields eb_doc eb_query eb_image eb_options eb_gen",
     "The words of an index": "eb_place eb_flat eb_table eb_terms eb_chain eb_writer eb_block eb_convert",
-    "Search": "eb_cursor eb_search eb_count eb_bloom eb_engine eb_feed feed_shared eb_blend eb_beside eb_desk eb_serve feed_serve eb_watch eb_match eb_plain",
+    "Search": "eb_marks eb_cursor eb_search eb_count eb_bloom eb_engine eb_feed feed_shared eb_blend eb_beside eb_desk eb_serve feed_serve eb_watch eb_match eb_plain",
     "Ways to run": "eb_lines lines_json run_store run_index run_ahead eb_rounds run_over_parts run_with_watches run_images run_with_workers feed_with_workers eb_run earlybird",
     "Around it": "eb_c embedding_example stream_example golden_runs test_lines eb_trials test_threads test_feed test_runs",
 }

@@ -1,5 +1,5 @@
 -- What the filters cover, with one more document, and what they say of a term.
-use Rattle.std.proofs.Common.{◌≡◌, ℕ, zero, suc, ◌+◌, ◌==◌, ◌||◌, ◌&&◌, ◌⊎◌, Bool, true, false, List, [], ◌∷◌, ◌++◌, length, get_or, map, take, reverse, replicate}
+use Rattle.std.proofs.Common.{◌≡◌, ℕ, zero, suc, ◌+◌, ◌==◌, ◌||◌, ◌&&◌, ◌⊎◌, Bool, true, false, List, [], ◌∷◌, ◌++◌, length, get_or, map, take, reverse}
 use Rattle.std.proofs.Common.{refl, ap, sym, ◌∙◌, subst, arith, inl, inr, eq-eqb}
 use Rattle.std.specs.List.{Contains, list_any, filter}
 use Rattle.std.proofs.lemmas.Bool.{cases_Bool, and_from, and_parts}
@@ -127,9 +127,3 @@ pub no_answer : (q : Tree) (k : ℕ) (docs : List Doc) → ((d : Doc) → Contai
 unfolding answer
 no_answer q zero docs h = refl
 no_answer q (suc k) docs h = ap (λ (z : List Doc). map (λ (d : Doc). d.id) (take (suc k) (reverse z))) (filter_nothing q docs h)
-
--- a list of true alone
-pub all_true : (n s : ℕ) → get_or (replicate n true) s true ≡ true
-all_true zero s = refl
-all_true (suc n) zero = refl
-all_true (suc n) (suc s) = all_true n s

@@ -1,6 +1,8 @@
 pub mod SingleBits
+pub mod Doubled
+pub mod Rows
 pub mod Sizes
 pub mod Covered
 pub mod VectorsBits
-pub mod MarkBits
+pub mod PartMarks
 pub mod Likely

@@ -1,11 +1,13 @@
--- A bit that is set in words, and the other ones; and two bits of one word.
-use Rattle.std.proofs.Common.{◌≡◌, ◌≢◌, ℕ, zero, suc, ◌+◌, ◌*◌, ◌/◌, ◌%◌, ◌^◌, ◌<◌, ◌==◌, ◌||◌, ◌&&◌, Bool, true, false, List, length, get_or, set, refl, ap, sym, ◌∙◌, arith, inl, inr, mod-lt}
+-- A bit that is set in words, and the other ones; and the bits of the rest of a word.
+use Rattle.std.proofs.Common.{◌≡◌, ◌≢◌, ℕ, ◌+◌, ◌*◌, ◌/◌, ◌%◌, ◌^◌, ◌<◌, ◌==◌, ◌||◌, Bool, true, false, List, length, get_or, set, refl, ap, sym, ◌∙◌, arith, inl, inr}
 use Rattle.std.specs.Int.{bit_at, w64}
-use Rattle.std.specs.Int.RustNames.{bit_or, bit_and}
+use Rattle.std.specs.Int.RustNames.{bit_or}
 use Rattle.std.proofs.lemmas.Bool.Decides.{eqb_tells}
 use Rattle.std.proofs.lemmas.List.{get_or-set_same, get_or-set_other}
-use Rattle.std.proofs.lemmas.Nat.Bits.{bit_at_set_same, bit_at_set_other, shr_and_one}
+use Rattle.std.proofs.lemmas.Nat.{shr-shr}
+use Rattle.std.proofs.lemmas.Nat.Bits.{bit_at_set_same, bit_at_set_other}
 use Rattle.eb_bloom.specs.Bits.{is_set}
+use Rattle.eb_marks.specs.Members.{has_mark}
 
 pub or_true : (b : Bool) → (b || true) ≡ true
 or_true true = refl
@@ -15,26 +17,15 @@ pub or_false : (b : Bool) → (b || false) ≡ b
 or_false true = refl
 or_false false = refl
 
--- whether both of two bits are set
-and_one : (x y : ℕ) → x < 2 → y < 2 → (bit_and x y == 1) ≡ (x == 1 && y == 1)
-and_one zero y small low = refl
-and_one (suc zero) zero small low = refl
-and_one (suc zero) (suc zero) small low = refl
-and_one (suc zero) (suc (suc y)) small low = absurd (omega (arith, low))
-and_one (suc (suc x)) y small low = absurd (omega (arith, small))
-
-pub set_both : (words : List ℕ) (b o : ℕ) → o < 64
-    → (bit_and (bit_and (get_or words (b / 64) 0 / 2 ^ (b % 64)) 1) (bit_and (get_or words (b / 64) 0 / 2 ^ o) 1) == 1) ≡ (is_set words b && is_set words (b / 64 * 64 + o))
+-- a bit of the rest of a word
+pub bit_from : (words : List ℕ) (b s : ℕ) → b % 64 + s < 64 → has_mark (get_or words (b / 64) 0 / 2 ^ (b % 64)) s ≡ is_set words (b + s)
 unfolding is_set
-set_both words b o low =
-    let w : ℕ = get_or words (b / 64) 0 in
-    let word : (b / 64 * 64 + o) / 64 ≡ b / 64 = omega (arith, low) in
-    let rest : (b / 64 * 64 + o) % 64 ≡ o = omega (arith, low) in
-    ap (λ z. bit_and z (bit_and (w / 2 ^ o) 1) == 1) (shr_and_one w (b % 64))
-    ∙ ap (λ z. bit_and (bit_at w (b % 64)) z == 1) (shr_and_one w o)
-    ∙ and_one (bit_at w (b % 64)) (bit_at w o) (mod-lt (w / 2 ^ (b % 64)) (omega arith)) (mod-lt (w / 2 ^ o) (omega arith))
-    ∙ ap (λ z. bit_at w (b % 64) == 1 && bit_at (get_or words z 0) o == 1) (sym word)
-    ∙ ap (λ z. bit_at w (b % 64) == 1 && bit_at (get_or words ((b / 64 * 64 + o) / 64) 0) z == 1) (sym rest)
+bit_from words b s low =
+    let word : (b + s) / 64 ≡ b / 64 = omega (arith, low) in
+    let rest : (b + s) % 64 ≡ b % 64 + s = omega (arith, low) in
+    ap (λ z. z % 2 == 1) (shr-shr (get_or words (b / 64) 0) (b % 64) s)
+    ∙ ap (λ z. bit_at (get_or words (b / 64) 0) z == 1) (sym rest)
+    ∙ ap (λ z. bit_at (get_or words z 0) ((b + s) % 64) == 1) (sym word)
 
 -- the word with one bit more
 abbrev pub with_bit : List ℕ → ℕ → ℕ

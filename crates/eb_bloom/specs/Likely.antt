@@ -1,6 +1,5 @@
 -- In which segments a query may match, by what is noted in their filters.
-use Rattle.std.specs.Prelude.{ℕ, ◌==◌, ◌&&◌, ◌||◌, Bool, true, false}
-use Rattle.std.specs.Int.{bit_at}
+use Rattle.std.specs.Prelude.{ℕ, ◌&&◌, ◌||◌, Bool, true, false}
 use Rattle.std.specs.List.{list_all}
 use Rattle.eb_base.specs.Query.{Tree, Trees, word, phrase, window, since, negation, conjunction, disjunction, no_trees, trees}
 use Rattle.eb_bloom.specs.Bits.{Bits, is_noted}
@@ -25,7 +24,3 @@ abbrev mutual
   pub some_may_match : Bits → ℕ → Trees → Bool
   some_may_match b s no_trees = false
   some_may_match b s (trees q qs) = may_match b s q || some_may_match b s qs
-
--- whether a number has the bit of this segment, which is the bit of the segment's number
-abbrev pub has_mark : ℕ → ℕ → Bool
-has_mark marks s = bit_at marks s == 1

@@ -4,36 +4,40 @@ ghost use Rattle.eb_base.specs.Document.{Doc};
 ghost use Rattle.eb_base.specs.Match.{answer};
 ghost use Rattle.eb_base.specs.Query.{tree};
 ghost use Rattle.eb_base.specs.Setting.{Setting};
-ghost use Rattle.eb_base.specs.Term.{Term};
 ghost use Rattle.eb_place.specs.Room.{cut};
-ghost use Rattle.eb_bloom.specs.Bits.{filter_words, mixed_hash, first_bit, second_bit, is_set, is_noted};
+ghost use Rattle.eb_bloom.specs.Bits.{filter_words, first_bit, second_bit, is_set, is_noted};
 ghost use Rattle.eb_bloom.specs.Covers.{Covers};
-ghost use Rattle.eb_bloom.specs.Likely.{has_mark, may_match};
+ghost use Rattle.eb_bloom.specs.Likely.{may_match};
 
-use crate::bits::{has_bits, set_bits};
+use crate::bits::{bits_from, set_bits};
 use crate::hashing::{first_of, mixed_hash_of, second_of};
+use crate::lanes::lanes_of;
 use crate::marks::marks_of;
-use eb_base::{Config, Document, MAX_SEGMENTS, NoMemory, Query, Term};
+use eb_base::{Config, Document, NoMemory, Query, Term};
+use eb_marks::Segments;
 use std::alloc::Global;
 use std::marker::Model;
 
 /// A Bloom filter for each segment of a setting: four bits for each term that a segment has room
-/// for, of which a term has two, in one word of 64. A mixed hash of the term chooses them (Knuth's
-/// multiplicative hashing).
+/// for, of which a term has two, chosen by a mixed hash of the term (Knuth's multiplicative
+/// hashing). The same bit of all segments lies in one word, so two loads ask all filters.
 #[derive(Debug, Drop)]
 pub struct Filters {
     config: Config,
     words: Vec<u64>,
+    // The bits of a row.
+    lanes: u32,
 }
 
 impl Model for Filters {
-    ghost use Rattle.eb_bloom.specs.Bits.{Bits, AreFilters};
+    ghost use Rattle.std.specs.Prelude.{◌≡◌};
+    ghost use Rattle.eb_bloom.specs.Bits.{Bits, AreFilters, row_bits};
 
     ghost Value = { Bits };
 
     ghost view = { λ f. record { setting = f.config; words = f.words.items } };
 
-    ghost invariant = { λ f. AreFilters (record { setting = f.config; words = f.words.items }) };
+    ghost invariant = { λ f. AreFilters (record { setting = f.config; words = f.words.items }) × (f.lanes ≡ row_bits f.config) };
 }
 
 impl Filters {
@@ -44,9 +48,14 @@ impl Filters {
         ensures covers { IfOk result (λ filters. Covers filters config []) }
     {
         let _words = config.words();
-        let number = config.segments() as usize * (config.terms() as usize / 16);
+        let lanes = lanes_of(config.segments());
+        let number = lanes as usize * (config.terms() as usize / 16);
         let words = vec![in alloc; 0u64; number]?;
-        Ok(Filters { config, words })
+        Ok(Filters {
+            config,
+            words,
+            lanes,
+        })
     }
 
     /// Notes the terms of a document in the filter of this segment. Where the document is in the
@@ -61,12 +70,15 @@ impl Filters {
         ensures covers { (σ : Setting) (docs : List Doc) → Covers self.old σ docs
             → segment + 1 ≡ length (cut σ (docs ++ document.now ∷ [])) → Covers self.new σ (docs ++ document.now ∷ []) }
     {
-        let bits = 4 * self.config.terms();
-        let base = segment as usize * bits as usize;
+        let rows = 4 * self.config.terms();
+        let lanes = self.lanes as usize;
+        let lane = segment as usize;
         let words = self.words.as_mut_slice();
         for term in document.terms().as_slice() {
             let mixed = mixed_hash_of(term);
-            set_bits(words, base + first_of(mixed, bits), second_of(mixed));
+            let first = first_of(mixed, rows);
+            let second = second_of(mixed, first);
+            set_bits(words, first * lanes + lane, second * lanes + lane);
         }
     }
 
@@ -75,7 +87,7 @@ impl Filters {
     /// part may match, an Or where some part may, and a bound and a Not in all. The result is true
     /// of each further segment. Where the filters cover an index, no document of a segment of which
     /// it is false matches the query. Takes no memory.
-    pub fn likely(&self, query: &Query, begun: u32) -> [bool; MAX_SEGMENTS as usize]
+    pub fn likely(&self, query: &Query, begun: u32) -> Segments
         requires { begun ≤ self.now.setting.segments }
         ensures noted { (s : ℕ) → s < begun → get_or result s true ≡ may_match self.now s (tree query.now) }
         ensures further { (s : ℕ) → begun ≤ s → get_or result s true ≡ true }
@@ -84,41 +96,22 @@ impl Filters {
     {
         // (a setting has at most 64 segments)
         let _segments = self.config.segments();
-        let marks = marks_of(self, query, begun);
-        let mut likely = [true; MAX_SEGMENTS as usize];
-        for segment in 0..begun {
-            likely[segment as usize] = (marks >> segment) & 1 == 1;
-        }
-        likely
+        marks_of(self, query, begun)
     }
 
-    // The marks of those of the first `begun` segments in whose filter the term is noted.
-    pub(crate) fn marks(&self, term: &Term, begun: u32) -> u64
+    // Those of the first `begun` segments in whose filter the term is noted, and all further ones.
+    pub(crate) fn marks(&self, term: &Term, begun: u32) -> Segments
         requires begun { begun ≤ self.now.setting.segments }
         requires few { begun ≤ 64 }
-        ensures { (s : ℕ) → s < begun → has_mark result s ≡ is_noted self.now s term.now }
+        ensures noted { (s : ℕ) → s < begun → get_or result s true ≡ is_noted self.now s term.now }
+        ensures further { (s : ℕ) → begun ≤ s → get_or result s true ≡ true }
     {
         let mixed = mixed_hash_of(term);
-        let mut marks = 0u64;
-        for segment in 0..begun {
-            if self.has_noted(segment, mixed) {
-                marks |= 1 << segment;
-            }
-        }
-        marks
-    }
-
-    // Whether a term with this mixed hash is noted in the filter of the segment.
-    fn has_noted(&self, segment: u32, mixed: u64) -> bool
-        requires { segment < self.now.setting.segments }
-        ensures { (t : Term) → mixed ≡ mixed_hash t → result ≡ is_noted self.now segment t }
-    {
-        let bits = 4 * self.config.terms();
-        let base = segment as usize * bits as usize;
-        has_bits(
-            self.words.as_slice(),
-            base + first_of(mixed, bits),
-            second_of(mixed),
-        )
+        let first = first_of(mixed, 4 * self.config.terms());
+        let second = second_of(mixed, first);
+        let lanes = self.lanes as usize;
+        let words = self.words.as_slice();
+        let both = bits_from(words, first * lanes) & bits_from(words, second * lanes);
+        Segments::marked(both, begun)
     }
 }

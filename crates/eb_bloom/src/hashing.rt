@@ -2,18 +2,21 @@
 //!
 //! A rare word is in one segment or two, but its home cell is filled in two of five others, and
 //! then the texts there are compared. A filter leaves these segments out: it has four bits for each
-//! term that its segment has room for, 32 KiB for 65,536 terms, and a term sets two of them. A
-//! search that finds one of them unset needs no look at the segment.
+//! term that its segment has room for, and a term sets two of them. A search that finds one of them
+//! unset needs no look at the segment.
+//!
+//! The bits lie row by row: a row has the same bit of each segment's filter, and lies in one word.
+//! So two loads ask the filters of all segments. A row has as many bits as there are segments,
+//! rounded up to a power of two: 32 KiB a segment for 65,536 terms, and at most twice as much.
 //!
 //! The dictionary's hash puts words like `z1234` and `z1235` into neighbouring cells, which fills
 //! runs of neighbouring bits. So the hash is multiplied by 2^64 over the golden ratio first
-//! (Knuth's multiplicative hashing). Both bits are in one word of 64, so a filter is asked by one
-//! load. By a model of 2,000 queries over five segments of 4,000 messages, 7 segments in 100
-//! searches for a rare word are looked at in vain, where one bit at the home cell made it 31. A
-//! rare word takes 2,848 instructions in place of 2,981, and a Zipf document 14,561 in place of
-//! 14,274. Rejected: a second bit beside the home cell by the higher bits of the unmixed hash,
-//! which are alike where the lower ones are (36 in vain), and a third bit (4 in vain).
-ghost use Rattle.std.specs.Prelude.{◌≡◌, ◌*◌, ◌/◌, ◌%◌, ◌^◌};
+//! (Knuth's multiplicative hashing). Both rows are among the same 64, which lie side by side. By a
+//! model of 2,000 queries over five segments of 4,000 messages, 7 segments in 100 searches for a
+//! rare word are looked at in vain, where one bit at the home cell made it 31. Rejected: a second
+//! bit beside the home cell by the higher bits of the unmixed hash, which are alike where the lower
+//! ones are (36 in vain), and a third bit (4 in vain).
+ghost use Rattle.std.specs.Prelude.{◌≡◌, ◌+◌, ◌*◌, ◌/◌, ◌%◌, ◌^◌};
 ghost use Rattle.eb_bloom.specs.Bits.{mixed_hash};
 
 use eb_base::Term;
@@ -26,16 +29,16 @@ pub(crate) fn mixed_hash_of(term: &Term) -> u64
     u64::from(hash_of(term)).wrapping_mul(11_400_714_819_323_198_485)
 }
 
-// How far into a filter of this many bits the first bit of a term with this mixed hash stands.
-pub(crate) fn first_of(mixed: u64, bits: u32) -> usize
-    ensures { result ≡ mixed / 2 ^ 32 * bits / 2 ^ 32 }
+// The first row of a term with this mixed hash, where there are this many rows.
+pub(crate) fn first_of(mixed: u64, rows: u32) -> usize
+    ensures { result ≡ mixed / 2 ^ 32 * rows / 2 ^ 32 }
 {
-    (((mixed >> 32) * u64::from(bits)) >> 32) as usize
+    (((mixed >> 32) * u64::from(rows)) >> 32) as usize
 }
 
-// How far into the word of the first bit the second one is.
-pub(crate) fn second_of(mixed: u64) -> usize
-    ensures { result ≡ mixed / 2 ^ 26 % 64 }
+// The second row, among the same 64 as the first.
+pub(crate) fn second_of(mixed: u64, first: usize) -> usize
+    ensures { result ≡ first / 64 * 64 + mixed / 2 ^ 26 % 64 }
 {
-    ((mixed >> 26) % 64) as usize
+    first / 64 * 64 + ((mixed >> 26) % 64) as usize
 }

@@ -12,7 +12,8 @@ ghost use Rattle.eb_place.specs.Later.{IsNotBefore};
 ghost use Rattle.eb_place.specs.Seen.{IsEntered};
 ghost use Rattle.eb_cursor.specs.Greatest.{AreFilled};
 
-use eb_base::{MAX_SEGMENTS, Term};
+use eb_base::Term;
+use eb_marks::Segments;
 use eb_place::{Port, Steps};
 use eb_terms::{hash_of, may_be_entered};
 use std::sync::ledger::Ledger;
@@ -24,7 +25,7 @@ pub fn segments_with<P: Port, L: Ledger>(
     begun: u32,
     port: &mut P,
     steps: &mut Steps<L>,
-) -> [bool; MAX_SEGMENTS as usize]
+) -> Segments
     requires { (m : Moment) × P.stands port.old m × (begun ≤ m.setting.segments) }
     ensures told { (m : Moment) → P.stands port.old m
         → (n : Moment) × P.stands port.new n × IsNotBefore n m × P.keeps port.old m port.new n
@@ -32,9 +33,11 @@ pub fn segments_with<P: Port, L: Ledger>(
     ensures loads { steps.new ≡ steps.old + begun }
 {
     let hashed = hash_of(term);
-    let mut likely = [true; MAX_SEGMENTS as usize];
+    let mut likely = Segments::all();
     for segment in 0..begun {
-        likely[segment as usize] = may_be_entered(port, segment, term, hashed, steps);
+        if !may_be_entered(port, segment, term, hashed, steps) {
+            likely = likely.without(segment);
+        }
     }
     likely
 }

@@ -19,10 +19,11 @@ ghost use Rattle.eb_table.specs.Known.{MadeWith};
 ghost use Rattle.eb_writer.specs.Progress.{PlacerStands, HasNoRoom};
 ghost use Rattle.eb_writer.specs.Storing.{IsAccepted};
 
-use eb_base::{Document, Gate, MAX_SEGMENTS};
+use eb_base::{Document, Gate};
 use eb_convert::{Converted, convert_next};
 use eb_count::Tally;
 use eb_cursor::Frame;
+use eb_marks::Segments;
 use eb_place::Steps;
 use eb_search::{count_first, count_likely, count_on, search, search_first, search_likely};
 use eb_table::{
@@ -59,18 +60,18 @@ pub(crate) fn search_words_likely<G: Gate, L: Ledger>(
     words: &SharedWords,
     frame: &mut Frame,
     gate: &G,
-    likely: &[bool; MAX_SEGMENTS as usize],
+    likely: Segments,
     steps: &mut Steps<L>,
 ) -> u64
     requires made { MadeWith seat.old words.now }
     ensures made { MadeWith seat.new words.now }
     ensures query { query_of frame.new ≡ query_of frame.old }
     ensures k { k_of frame.new ≡ k_of frame.old }
-    ensures answer { SearchedLikely seat.old.moment seat.new.moment (query_of frame.old) (k_of frame.old) likely.now result (ids_of frame.new) }
+    ensures answer { SearchedLikely seat.old.moment seat.new.moment (query_of frame.old) (k_of frame.old) likely result (ids_of frame.new) }
     ensures loads { (t : List ℕ) → query_of frame.old ≡ word t
-        → IsWithinBound likely.now seat.old.moment seat.new.moment t result (length (ids_of frame.new)) steps.old steps.new }
+        → IsWithinBound likely seat.old.moment seat.new.moment t result (length (ids_of frame.new)) steps.old steps.new }
     ensures rounds { (ts : List (List ℕ)) → query_of frame.old ≡ conjunction (word_parts ts)
-        → IsWithinAndBound likely.now seat.new.moment ts result (length (ids_of frame.new)) steps.old steps.new }
+        → IsWithinAndBound likely seat.new.moment ts result (length (ids_of frame.new)) steps.old steps.new }
 {
     let mut port = ReaderPort { seat, words };
     search_likely(&mut port, frame, gate, likely, steps)
@@ -112,7 +113,7 @@ pub(crate) fn search_alone_likely<G: Gate, L: Ledger>(
     words: &SharedWords,
     frame: &mut Frame,
     gate: &G,
-    likely: &[bool; MAX_SEGMENTS as usize],
+    likely: Segments,
     steps: &mut Steps<L>,
 ) -> u64
     requires made { MadeWith seat.old words.now }
@@ -123,12 +124,12 @@ pub(crate) fn search_alone_likely<G: Gate, L: Ledger>(
     ensures query { query_of frame.new ≡ query_of frame.old }
     ensures k { k_of frame.new ≡ k_of frame.old }
     ensures count { result ≡ length seat.old.moment.documents.accepted }
-    ensures ids { AreNone (query_of frame.old) (cut words.now.setting seat.old.moment.documents.accepted) likely.now
+    ensures ids { AreNone (query_of frame.old) (cut words.now.setting seat.old.moment.documents.accepted) likely
         → ids_of frame.new ≡ answer (query_of frame.old) (k_of frame.old) seat.old.moment.documents.accepted }
     ensures loads { (t : List ℕ) → query_of frame.old ≡ word t → (now : Moment) × IsAlone seat.old.moment now
-        × IsWithinBound likely.now seat.old.moment now t result (length (ids_of frame.new)) steps.old steps.new }
+        × IsWithinBound likely seat.old.moment now t result (length (ids_of frame.new)) steps.old steps.new }
     ensures rounds { (ts : List (List ℕ)) → query_of frame.old ≡ conjunction (word_parts ts) → (now : Moment) × IsAlone seat.old.moment now
-        × IsWithinAndBound likely.now now ts result (length (ids_of frame.new)) steps.old steps.new }
+        × IsWithinAndBound likely now ts result (length (ids_of frame.new)) steps.old steps.new }
 {
     let mut reader = seat.split(words);
     let count = search_words_likely(&mut reader, words, frame, gate, likely, steps);
@@ -185,14 +186,14 @@ pub(crate) fn count_words_likely<G: Gate, L: Ledger>(
     frame: &mut Frame,
     tally: &mut Tally,
     gate: &G,
-    likely: &[bool; MAX_SEGMENTS as usize],
+    likely: Segments,
     steps: &mut Steps<L>,
 ) -> u64
     requires made { MadeWith seat.old words.now }
     ensures made { MadeWith seat.new words.now }
     ensures seen { SeenAs frame.old frame.new }
-    ensures counts { CountedLikely seat.old.moment seat.new.moment (query_of frame.old) likely.now result tally.old tally.new }
-    ensures loads { (t : List ℕ) → query_of frame.old ≡ word t → IsWithinBound likely.now seat.old.moment seat.new.moment t result
+    ensures counts { CountedLikely seat.old.moment seat.new.moment (query_of frame.old) likely result tally.old tally.new }
+    ensures loads { (t : List ℕ) → query_of frame.old ≡ word t → IsWithinBound likely seat.old.moment seat.new.moment t result
         (match_loads (length tally.old.buckets) (match_count (word t) (take result seat.new.moment.documents.accepted))) steps.old steps.new }
 {
     let mut port = ReaderPort { seat, words };
@@ -235,7 +236,7 @@ pub(crate) fn count_alone_likely<G: Gate, L: Ledger>(
     frame: &mut Frame,
     tally: &mut Tally,
     gate: &G,
-    likely: &[bool; MAX_SEGMENTS as usize],
+    likely: Segments,
     steps: &mut Steps<L>,
 ) -> u64
     requires made { MadeWith seat.old words.now }
@@ -245,10 +246,10 @@ pub(crate) fn count_alone_likely<G: Gate, L: Ledger>(
     ensures documents { seat.new.moment.documents ≡ seat.old.moment.documents }
     ensures seen { SeenAs frame.old frame.new }
     ensures count { result ≡ length seat.old.moment.documents.accepted }
-    ensures counts { AreNone (query_of frame.old) (cut words.now.setting seat.old.moment.documents.accepted) likely.now
+    ensures counts { AreNone (query_of frame.old) (cut words.now.setting seat.old.moment.documents.accepted) likely
         → HasCounted (query_of frame.old) seat.old.moment.documents.accepted tally.old tally.new }
     ensures loads { (t : List ℕ) → query_of frame.old ≡ word t → (now : Moment) × IsAlone seat.old.moment now
-        × IsWithinBound likely.now seat.old.moment now t result
+        × IsWithinBound likely seat.old.moment now t result
         (match_loads (length tally.old.buckets) (match_count (word t) seat.old.moment.documents.accepted)) steps.old steps.new }
 {
     let mut reader = seat.split(words);

@@ -18,9 +18,10 @@ use crate::calls::{
     search_words_likely,
 };
 use crate::index::Index;
-use eb_base::{Gate, MAX_SEGMENTS};
+use eb_base::Gate;
 use eb_count::Tally;
 use eb_cursor::Frame;
+use eb_marks::Segments;
 use eb_place::Steps;
 use eb_table::ReaderSeat;
 use std::marker::Model;
@@ -141,7 +142,7 @@ impl Reader {
         index: &Index,
         frame: &mut Frame,
         gate: &G,
-        likely: &[bool; MAX_SEGMENTS as usize],
+        likely: Segments,
         steps: &mut Steps<L>,
     ) -> u64
         requires { self.old.index ≡ index.now }
@@ -151,12 +152,12 @@ impl Reader {
         ensures count { result ≡ length self.new.docs }
         ensures query { query_of frame.new ≡ query_of frame.old }
         ensures k { k_of frame.new ≡ k_of frame.old }
-        ensures ids { AreNone (query_of frame.old) (cut index.now.setting self.new.docs) likely.now
+        ensures ids { AreNone (query_of frame.old) (cut index.now.setting self.new.docs) likely
             → ids_of frame.new ≡ answer (query_of frame.old) (k_of frame.old) self.new.docs }
         ensures loads { (t : List ℕ) → query_of frame.old ≡ word t
-            → IsBounded likely.now index.now.setting self.old.docs self.old.converted self.new.docs t (length (ids_of frame.new)) steps.old steps.new }
+            → IsBounded likely index.now.setting self.old.docs self.old.converted self.new.docs t (length (ids_of frame.new)) steps.old steps.new }
         ensures rounds { (ts : List (List ℕ)) → query_of frame.old ≡ conjunction (word_parts ts)
-            → IsAndBounded likely.now index.now.setting self.new.docs ts (length (ids_of frame.new)) steps.old steps.new }
+            → IsAndBounded likely index.now.setting self.new.docs ts (length (ids_of frame.new)) steps.old steps.new }
     {
         let count = search_words_likely(&mut self.seat, &index.words, frame, gate, likely, steps);
         self.seen = count;
@@ -223,7 +224,7 @@ impl Reader {
         frame: &mut Frame,
         tally: &mut Tally,
         gate: &G,
-        likely: &[bool; MAX_SEGMENTS as usize],
+        likely: Segments,
         steps: &mut Steps<L>,
     ) -> u64
         requires { self.old.index ≡ index.now }
@@ -232,9 +233,9 @@ impl Reader {
         ensures converted { self.new.converted ≡ self.old.converted }
         ensures count { result ≡ length self.new.docs }
         ensures seen { SeenAs frame.old frame.new }
-        ensures counts { AreNone (query_of frame.old) (cut index.now.setting self.new.docs) likely.now
+        ensures counts { AreNone (query_of frame.old) (cut index.now.setting self.new.docs) likely
             → HasCounted (query_of frame.old) self.new.docs tally.old tally.new }
-        ensures loads { (t : List ℕ) → query_of frame.old ≡ word t → IsBounded likely.now index.now.setting self.old.docs self.old.converted self.new.docs t
+        ensures loads { (t : List ℕ) → query_of frame.old ≡ word t → IsBounded likely index.now.setting self.old.docs self.old.converted self.new.docs t
             (match_loads (length tally.old.buckets) (match_count (word t) self.new.docs)) steps.old steps.new }
     {
         let count = count_words_likely(

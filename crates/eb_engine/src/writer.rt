@@ -19,9 +19,10 @@ use crate::calls::{
 use crate::converter::Converter;
 use crate::index::Index;
 use crate::reader::Reader;
-use eb_base::{Config, Document, Gate, MAX_SEGMENTS, Point};
+use eb_base::{Config, Document, Gate, Point};
 use eb_count::Tally;
 use eb_cursor::Frame;
+use eb_marks::Segments;
 use eb_place::Steps;
 use eb_table::WriterSeat;
 use eb_writer::{Full, Placer};
@@ -159,7 +160,7 @@ impl Writer {
         index: &Index,
         frame: &mut Frame,
         gate: &G,
-        likely: &[bool; MAX_SEGMENTS as usize],
+        likely: Segments,
         steps: &mut Steps<L>,
     ) -> u64
         requires { self.old.index ≡ index.now }
@@ -167,12 +168,12 @@ impl Writer {
         ensures count { result ≡ length self.new.docs }
         ensures query { query_of frame.new ≡ query_of frame.old }
         ensures k { k_of frame.new ≡ k_of frame.old }
-        ensures ids { AreNone (query_of frame.old) (cut index.now.setting self.new.docs) likely.now
+        ensures ids { AreNone (query_of frame.old) (cut index.now.setting self.new.docs) likely
             → ids_of frame.new ≡ answer (query_of frame.old) (k_of frame.old) self.new.docs }
         ensures loads { (t : List ℕ) → query_of frame.old ≡ word t
-            → IsBoundedAlone likely.now index.now.setting self.new.docs self.new.converted t (length (ids_of frame.new)) steps.old steps.new }
+            → IsBoundedAlone likely index.now.setting self.new.docs self.new.converted t (length (ids_of frame.new)) steps.old steps.new }
         ensures rounds { (ts : List (List ℕ)) → query_of frame.old ≡ conjunction (word_parts ts)
-            → IsAndBoundedAlone likely.now index.now.setting self.new.docs ts (length (ids_of frame.new)) steps.old steps.new }
+            → IsAndBoundedAlone likely index.now.setting self.new.docs ts (length (ids_of frame.new)) steps.old steps.new }
     {
         search_alone_likely(&mut self.seat, &index.words, frame, gate, likely, steps)
     }
@@ -210,16 +211,16 @@ impl Writer {
         frame: &mut Frame,
         tally: &mut Tally,
         gate: &G,
-        likely: &[bool; MAX_SEGMENTS as usize],
+        likely: Segments,
         steps: &mut Steps<L>,
     ) -> u64
         requires { self.old.index ≡ index.now }
         ensures this { self.new ≡ self.old }
         ensures count { result ≡ length self.new.docs }
         ensures seen { SeenAs frame.old frame.new }
-        ensures counts { AreNone (query_of frame.old) (cut index.now.setting self.new.docs) likely.now
+        ensures counts { AreNone (query_of frame.old) (cut index.now.setting self.new.docs) likely
             → HasCounted (query_of frame.old) self.new.docs tally.old tally.new }
-        ensures loads { (t : List ℕ) → query_of frame.old ≡ word t → IsBoundedAlone likely.now index.now.setting self.new.docs self.new.converted t
+        ensures loads { (t : List ℕ) → query_of frame.old ≡ word t → IsBoundedAlone likely index.now.setting self.new.docs self.new.converted t
             (match_loads (length tally.old.buckets) (match_count (word t) self.new.docs)) steps.old steps.new }
     {
         count_alone_likely(

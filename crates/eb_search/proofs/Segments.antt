@@ -1,5 +1,5 @@
 -- The accepted documents of a segment, at later moments too.
-use Rattle.std.proofs.Common.{◌≡◌, ℕ, ◌+◌, ◌-◌, ◌<◌, ◌≤◌, ◌^◌, Bool, true, false, zero, suc, List, [], ◌∷◌, ◌++◌, length, drop, get_or, slice_get, Some, refl, ap, sym, ◌∙◌, subst, arith}
+use Rattle.std.proofs.Common.{◌≡◌, ℕ, ◌+◌, ◌-◌, ◌<◌, ◌≤◌, ◌^◌, ◌⊎◌, inl, inr, Bool, List, [], ◌++◌, length, drop, get_or, slice_get, Some, refl, ap, sym, ◌∙◌, subst, arith}
 use mathlib.Core.List.{IsPrefix}
 use Rattle.eb_place.proofs.NextStore.{accepted_lawful}
 use Rattle.eb_base.specs.Document.{Doc}
@@ -25,7 +25,7 @@ use Rattle.eb_base.specs.Match.{answer}
 use Rattle.eb_cursor.specs.Greatest.{AreLikely}
 use Rattle.eb_search.proofs.Matches.{found_none, found_nothing}
 use Rattle.eb_search.specs.Visible.{AreFirsts, AreNone, AreVisible, documents_before}
-use Rattle.eb_search.proofs.Parts.{is_part, drop_segment}
+use Rattle.eb_search.proofs.Parts.{is_part, drop_segment, before_end}
 use Rattle.eb_search.proofs.Beginnings.{cut_short}
 
 -- a segment of the first accepted documents begins the accepted documents of that segment
@@ -51,17 +51,6 @@ visible_later m n docs firsts begun l v = record {
 -- and those of which none matches
 pub none_later : (m n : Moment) (docs : List Doc) (likely : List Bool) (q : Tree) → IsNotBefore n m → AreNone q (cut m.setting docs) likely → AreNone q (cut n.setting docs) likely
 none_later m n docs likely q l h = subst (λ (σ : Setting). AreNone q (cut σ docs) likely) l.setting h
-
--- inside a list it doesn't matter what comes after it
-pub inside_same : (xs : List Bool) (i : ℕ) → i < length xs → get_or xs i true ≡ get_or xs i false
-inside_same [] i h = absurd (omega (arith, h))
-inside_same (x ∷ xs) zero h = refl
-inside_same (x ∷ xs) (suc i) h = inside_same xs i (omega (arith, h))
-
-pub inside_on : (xs : List Bool) (i : ℕ) → get_or xs i false ≡ true → get_or xs i true ≡ true
-inside_on [] i h = absurd (cc h)
-inside_on (x ∷ xs) zero h = h
-inside_on (x ∷ xs) (suc i) h = inside_on xs i h
 
 -- they are those that the cursors know of
 pub none_of : (m : Moment) (docs : List Doc) (likely : List Bool) (q : Tree) → IsPrefix docs m.documents.accepted → AreLikely m q likely → AreNone q (cut m.setting docs) likely
@@ -123,3 +112,16 @@ is_step m docs firsts begun s end is v le e =
       first = first;
       rest = drop_segment m.setting docs s here ∙ ap (λ n. get_or (cut m.setting docs) s [] ++ drop n docs) (sym e);
     }
+
+-- where the documents of a segment end, by the next first-document word, or by the count
+abbrev pub IsEnd : List ℕ → ℕ → ℕ → ℕ → ℕ → Type 0
+IsEnd firsts begun count s end = ((s + 1 < begun) × (end ≡ get_or firsts (s + 1) 0 - 1)) ⊎ ((begun ≤ s + 1) × (end ≡ count))
+
+pub ends_there : (m : Moment) (docs : List Doc) (firsts : List ℕ) (begun count s end : ℕ) → length docs ≡ count → AreVisible m docs firsts begun
+    → s < begun → IsEnd firsts begun count s end → end ≡ documents_before (cut m.setting docs) (s + 1)
+ends_there m docs firsts begun count s end same v low e = elim e [
+  | inl next ↦ omega (arith, next.1, v.words.each (s + 1) next.0)
+  | inr last ↦
+      let here : length (cut m.setting docs) ≡ s + 1 = omega (arith, v.words.all, last.0, low) in
+      last.1 ∙ sym same ∙ sym (before_end m.setting docs) ∙ ap (documents_before (cut m.setting docs)) here
+]

@@ -33,3 +33,11 @@ pub record SearchedLikely (m n : Moment) (q : Tree) (k : ℕ) (likely : List Boo
   pub before : IsNotBefore n loaded
   pub count : counted ≡ length loaded.documents.accepted
   pub ids : AreNone q (cut loaded.setting loaded.documents.accepted) likely → found ≡ answer q k loaded.documents.accepted
+
+-- the same where the frame held ids before
+pub record SearchedOnLikely (m n : Moment) (q : Tree) (k : ℕ) (likely : List Bool) (counted : ℕ) (held found : List ℕ) : Type 0 where
+  pub loaded : Moment
+  pub after : IsNotBefore loaded m
+  pub before : IsNotBefore n loaded
+  pub count : counted ≡ length loaded.documents.accepted
+  pub ids : AreNone q (cut loaded.setting loaded.documents.accepted) likely → found ≡ held ++ answer q (k - length held) loaded.documents.accepted

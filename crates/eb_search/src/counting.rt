@@ -16,6 +16,7 @@ use crate::visible::visible_segments;
 use eb_base::{Gate, MAX_SEGMENTS, Point};
 use eb_count::Tally;
 use eb_cursor::Frame;
+use eb_marks::Segments;
 use eb_place::{Port, Steps};
 use std::sync::ledger::Ledger;
 
@@ -58,16 +59,16 @@ pub fn count_likely<P: Port, G: Gate, L: Ledger>(
     frame: &mut Frame,
     tally: &mut Tally,
     gate: &G,
-    likely: &[bool; MAX_SEGMENTS as usize],
+    likely: Segments,
     steps: &mut Steps<L>,
 ) -> u64
     requires { (m : Moment) × P.stands port.old m }
     ensures seen { SeenAs frame.old frame.new }
     ensures counts { (m : Moment) → P.stands port.old m → (n : Moment) × P.stands port.new n × P.keeps port.old m port.new n
-        × CountedLikely m n (query_of frame.old) likely.now result tally.old tally.new }
+        × CountedLikely m n (query_of frame.old) likely result tally.old tally.new }
     ensures loads { (m : Moment) (t : List ℕ) → P.stands port.old m → query_of frame.old ≡ word t
         → (n : Moment) × P.stands port.new n × IsNotBefore n m × P.keeps port.old m port.new n
-        × (steps.new ≤ steps.old + count_bound likely.now m n result t (length tally.old.buckets)) }
+        × (steps.new ≤ steps.old + count_bound likely m n result t (length tally.old.buckets)) }
 {
     let mut firsts = [0; MAX_SEGMENTS as usize];
     let count = port.load(0, steps);

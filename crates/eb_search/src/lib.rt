@@ -14,5 +14,5 @@ mod walking;
 
 pub use counting::{count_first, count_likely, count_on};
 pub use known::search_first;
-pub use likely::search_likely;
+pub use likely::{search_likely, search_on_likely};
 pub use searching::{search, search_on};

@@ -15,9 +15,11 @@ ghost use Rattle.eb_cursor.specs.Frames.{query_of, SeenAs};
 ghost use Rattle.eb_search.specs.Bounds.{loads_from, match_loads};
 ghost use Rattle.eb_search.specs.Visible.{AreVisible, AreNone, CanWalk};
 
+use crate::visible::documents_in;
 use eb_base::MAX_SEGMENTS;
 use eb_count::Tally;
 use eb_cursor::Frame;
+use eb_marks::Segments;
 use eb_place::{Places, Port, Steps};
 use std::sync::ledger::Ledger;
 
@@ -96,7 +98,7 @@ pub(crate) fn tally_walk<P: Port, L: Ledger>(
         (λ n. steps.new ≤ steps.old + begun + loads_from [] was n 0 begun t + match_loads (length tally.old.buckets) (match_count (word t) docs)) }
 {
     let likely = frame.likely(port, begun, steps);
-    tally_walk_likely(port, frame, tally, count, firsts, &likely, begun, steps);
+    tally_walk_likely(port, frame, tally, count, firsts, likely, begun, steps);
 }
 
 /// Counts as above, and skips each segment of which `likely` says that none of these documents of
@@ -107,7 +109,7 @@ pub(crate) fn tally_walk_likely<P: Port, L: Ledger>(
     tally: &mut Tally,
     count: u64,
     firsts: &[u64; MAX_SEGMENTS as usize],
-    likely: &[bool; MAX_SEGMENTS as usize],
+    likely: Segments,
     begun: u32,
     steps: &mut Steps<L>,
 )
@@ -116,20 +118,16 @@ pub(crate) fn tally_walk_likely<P: Port, L: Ledger>(
     ensures stands { (docs : List Doc) → length docs ≡ count → Told P.stands P.keeps port.old port.new
         (λ m. AreVisible m docs firsts.now begun) (λ n. AreVisible n docs firsts.now begun) }
     ensures counted { (docs : List Doc) → length docs ≡ count → Told P.stands P.keeps port.old port.new
-        (λ m. AreVisible m docs firsts.now begun × AreNone (query_of frame.old) (cut m.setting docs) likely.now)
+        (λ m. AreVisible m docs firsts.now begun × AreNone (query_of frame.old) (cut m.setting docs) likely)
         (λ n. HasCounted (query_of frame.old) docs tally.old tally.new) }
     ensures costs { (was : Moment) (docs : List Doc) (t : List ℕ) → length docs ≡ count → query_of frame.old ≡ word t
         → Told P.stands P.keeps port.old port.new (λ m. AreVisible m docs firsts.now begun × IsNotBefore m was)
-        (λ n. steps.new ≤ steps.old + loads_from likely.now was n 0 begun t + match_loads (length tally.old.buckets) (match_count (word t) docs)) }
+        (λ n. steps.new ≤ steps.old + loads_from likely was n 0 begun t + match_loads (length tally.old.buckets) (match_count (word t) docs)) }
 {
-    let mut end = count;
-    let mut segment = begun;
-    while segment > 0 {
-        segment -= 1;
-        let start = firsts[segment as usize] - 1;
-        if likely[segment as usize] {
-            tally_matches(port, frame, tally, segment, (end - start) as u32, steps);
-        }
-        end = start;
+    let mut top = begun;
+    while let Some(segment) = likely.last_below(top) {
+        let documents = documents_in(firsts, begun, count, segment);
+        tally_matches(port, frame, tally, segment, documents, steps);
+        top = segment;
     }
 }

@@ -1,8 +1,10 @@
 //! The segments that a search looks at.
-ghost use Rattle.std.specs.Prelude.{◌≡◌, ◌≤◌, ◌+◌, List, length};
+ghost use Rattle.std.specs.Prelude.{◌≡◌, ◌<◌, ◌≤◌, ◌+◌, List, [], length, get_or};
 ghost use mathlib.Core.List.{IsPrefix};
 ghost use Rattle.eb_base.specs.Document.{Doc};
 ghost use Rattle.eb_place.specs.declared.moment.Moment.{Moment};
+ghost use Rattle.eb_place.specs.Moments.{IsMoment};
+ghost use Rattle.eb_place.specs.Room.{cut};
 ghost use Rattle.eb_place.specs.Told.{Told};
 ghost use Rattle.eb_search.specs.Visible.{AreVisible};
 
@@ -36,4 +38,24 @@ pub(crate) fn visible_segments<P: Port, L: Ledger>(
         segment += 1;
     }
     segment
+}
+
+/// How many of the first `count` accepted documents are in this segment, one of the `begun` ones.
+/// `firsts` has the first-document word of each of these.
+pub(crate) fn documents_in(
+    firsts: &[u64; MAX_SEGMENTS as usize],
+    begun: u32,
+    count: u64,
+    segment: u32,
+) -> u32
+    requires visible { (m : Moment) × (docs : List Doc) × IsMoment m × (length docs ≡ count) × AreVisible m docs firsts.now begun }
+    requires begun { segment < begun }
+    ensures { (m : Moment) (docs : List Doc) → IsMoment m → length docs ≡ count → AreVisible m docs firsts.now begun
+        → result ≡ length (get_or (cut m.setting docs) segment []) }
+{
+    let mut end = count;
+    if segment + 1 < begun {
+        end = firsts[segment as usize + 1] - 1;
+    }
+    (end - (firsts[segment as usize] - 1)) as u32
 }

@@ -32,7 +32,7 @@ fn count_with<G: Gate, L: Ledger>(
 {
     let mut steps = Steps::<L>::new(blank);
     let likely = filters.likely(frame.query(), writer.segments());
-    writer.count_likely(index, frame, tally, gate, &likely, &mut steps)
+    writer.count_likely(index, frame, tally, gate, likely, &mut steps)
 }
 
 /// Counts, in the tally, all matches among the whole history of an index, by its writer: all in

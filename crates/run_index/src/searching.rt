@@ -33,7 +33,7 @@ fn search_noted<G: Gate, L: Ledger>(
         → IsSpared filters.now index.now.setting writer.new.docs writer.new.converted t (length (ids_of frame.new)) steps.old steps.new }
 {
     let likely = filters.likely(frame.query(), writer.segments());
-    writer.search_likely(index, frame, gate, &likely, steps)
+    writer.search_likely(index, frame, gate, likely, steps)
 }
 
 // Searches with a counter of loads that nobody reads.

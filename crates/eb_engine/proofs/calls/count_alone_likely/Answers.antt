@@ -28,7 +28,7 @@ returns-clause-counts g c =
     let q = query_of c.args.frame.now in
     let one = found c.args.seat.now c.split-reader.result c.split-reader.new.self c.split-reader.ensures.new c.split-reader.ensures.this c.requires.idle c.meet.new.self.moment
     c.meet.ensures.documents e.loaded e.after (later_on _ _ _ e.before c.meet.ensures.least.second) in
-    let likely = c.args.likely.now in
+    let likely = c.args.likely in
     let start = subst (λ (s : Known). IsNotBefore e.loaded s.moment) c.split-reader.ensures.new e.after in
     let setting = start.setting in
     λ none. subst (λ (x : Documents). HasCounted q x.accepted c.args.tally.now c.count_words_likely-count.new.tally) one
@@ -46,6 +46,6 @@ returns-clause-loads g c = λ t is.
     let docs = matches_alone c.args.seat.now c.split-reader.result c.split-reader.new.self c.split-reader.ensures.new c.split-reader.ensures.this c.requires.idle c.meet.new.self.moment
     c.meet.ensures.documents n count since until all in
     loads_alone c.args.seat.now c.split-reader.result c.split-reader.new.self c.split-reader.ensures.new c.split-reader.ensures.this c.requires.idle c.meet.new.self.moment
-    c.meet.ensures.documents c.args.likely.now _ t _ _ _ _ e.made.moment since until
-    (subst (λ (docs : List Doc). IsWithinBound c.args.likely.now c.split-reader.result.moment n t count
+    c.meet.ensures.documents c.args.likely _ t _ _ _ _ e.made.moment since until
+    (subst (λ (docs : List Doc). IsWithinBound c.args.likely c.split-reader.result.moment n t count
     (match_loads (length c.args.tally.now.buckets) (match_count (word t) docs)) c.args.steps.now c.count_words_likely-count.new.steps) docs (e.loads t is))

@@ -27,5 +27,5 @@ returns-clause-loads g c = λ t is.
     let same = sym k.3.0 in
     let at = sym k.1.1 in
     let ids = match_loads (length c.args.tally.now.buckets) (match_count (word t) (take c.count_likely.result k.0.documents.accepted)) in
-    let few : IsWithinBound c.args.likely.now c.args.seat.now.moment k.0 t c.count_likely.result ids c.args.steps.now c.count_likely.new.steps = record { few = k.4 } in
+    let few : IsWithinBound c.args.likely c.args.seat.now.moment k.0 t c.count_likely.result ids c.args.steps.now c.count_likely.new.steps = record { few = k.4 } in
     grind (arith, same, at, few)

@@ -25,7 +25,7 @@ returns-clause-ids g c =
     let k = k_of c.args.frame.now in
     let one = found c.args.seat.now c.split-reader.result c.split-reader.new.self c.split-reader.ensures.new c.split-reader.ensures.this c.requires.idle c.meet.new.self.moment
     c.meet.ensures.documents e.loaded e.after (later_on _ _ _ e.before c.meet.ensures.least.second) in
-    let likely = c.args.likely.now in
+    let likely = c.args.likely in
     let start = subst (λ (s : Known). IsNotBefore e.loaded s.moment) c.split-reader.ensures.new e.after in
     let setting = start.setting in
     λ none. e.ids (subst (λ (x : Setting × List Doc). AreNone q (cut x.0 x.1) likely) (λ i. ((sym c.requires.made.setting ∙ setting) i, sym (ap (λ (x : Documents). x.accepted) one) i)) none)
@@ -35,10 +35,10 @@ pub returns-clause-loads : goal.returns-clause-loads
 returns-clause-loads g c = λ t is.
     let e = c.search_words_likely-count.ensures in
     loads_alone c.args.seat.now c.split-reader.result c.split-reader.new.self c.split-reader.ensures.new c.split-reader.ensures.this c.requires.idle c.meet.new.self.moment
-    c.meet.ensures.documents c.args.likely.now _ t _ _ _ _ e.made.moment (later_on _ _ _ e.answer.after e.answer.before) c.meet.ensures.least.second (e.loads t is)
+    c.meet.ensures.documents c.args.likely _ t _ _ _ _ e.made.moment (later_on _ _ _ e.answer.after e.answer.before) c.meet.ensures.least.second (e.loads t is)
 
 pub returns-clause-rounds : goal.returns-clause-rounds
 returns-clause-rounds g c = λ ts is.
     let e = c.search_words_likely-count.ensures in
     rounds_alone c.args.seat.now c.split-reader.result c.split-reader.new.self c.split-reader.ensures.new c.split-reader.ensures.this c.requires.idle c.meet.new.self.moment
-    c.meet.ensures.documents c.args.likely.now _ ts _ _ _ _ e.made.moment (later_on _ _ _ e.answer.after e.answer.before) c.meet.ensures.least.second (e.rounds ts is)
+    c.meet.ensures.documents c.args.likely _ ts _ _ _ _ e.made.moment (later_on _ _ _ e.answer.after e.answer.before) c.meet.ensures.least.second (e.rounds ts is)

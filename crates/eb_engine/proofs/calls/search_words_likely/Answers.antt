@@ -25,7 +25,7 @@ returns-clause-loads g c = λ t is.
     let same = sym k.3.0 in
     let at = sym k.1.1 in
     let ids = length (ids_of c.search_likely.new.frame) in
-    let few : IsWithinBound c.args.likely.now c.args.seat.now.moment k.0 t c.search_likely.result ids c.args.steps.now c.search_likely.new.steps = record { few = k.4 } in
+    let few : IsWithinBound c.args.likely c.args.seat.now.moment k.0 t c.search_likely.result ids c.args.steps.now c.search_likely.new.steps = record { few = k.4 } in
     grind (arith, same, at, few)
 
 pub returns-clause-rounds : goal.returns-clause-rounds
@@ -34,5 +34,5 @@ returns-clause-rounds g c = λ ts is.
     let same = sym k.3.0 in
     let at = sym k.1.1 in
     let ids = length (ids_of c.search_likely.new.frame) in
-    let few : IsWithinAndBound c.args.likely.now k.0 ts c.search_likely.result ids c.args.steps.now c.search_likely.new.steps = record { few = k.4 } in
+    let few : IsWithinAndBound c.args.likely k.0 ts c.search_likely.result ids c.args.steps.now c.search_likely.new.steps = record { few = k.4 } in
     grind (arith, same, at, few)

@@ -40,7 +40,7 @@ returns-clause-counts g c = λ m st.
         before = later_on l.0 y.0 z.0 y.2 z.2;
         count = sym same;
         tally = λ none.
-            let there = none_later l.0 y.0 docs c.args.likely.now (query_of c.args.frame.now) y.2 none in
+            let there = none_later l.0 y.0 docs c.args.likely (query_of c.args.frame.now) y.2 none in
             let w = (c.tally_walk_likely.ensures.counted docs same).told y.0 y.1 (y.4, there) in
             w.4;
       },
@@ -65,7 +65,7 @@ returns-clause-loads g c = λ m t st is.
         c.visible_segments-begun.ensures.loads l.0 l.1,
         ap (λ (σ : Setting). σ.segments) zp.setting,
         z.4,
-        ap (λ k. loads_from c.args.likely.now m z.0 0 k t) (y.4.words.all ∙ ap (λ (σ : Setting). length (cut σ docs)) z.2.setting),
-        count_bound_is c.args.likely.now m z.0 docs c.load-count.result t b same zp.documents.accepted,
+        ap (λ k. loads_from c.args.likely m z.0 0 k t) (y.4.words.all ∙ ap (λ (σ : Setting). length (cut σ docs)) z.2.setting),
+        count_bound_is c.args.likely m z.0 docs c.load-count.result t b same zp.documents.accepted,
       ),
     )

@@ -2,18 +2,30 @@ use Rattle.std.proofs.Common.{◌<◌, ◌||◌, ℕ, List, length, take, ap, sy
 use Rattle.std.specs.List.{list_any}
 use Rattle.std.specs.Vec.{with_items}
 use Rattle.std.proofs.lemmas.List.{with_items_is, take_all}
+use Rattle.eb_base.specs.Setting.{Setting}
 use Rattle.eb_base.specs.Term.{Term}
 use Rattle.eb_bloom.specs.Bits.{Bits, is_set}
-use Rattle.eb_bloom.proofs.Sizes.{first_within}
+use Rattle.eb_bloom.proofs.Sizes.{are_inside}
 use Rattle.eb_bloom.proofs.Covered.{AreNoted, is_bit_of, covers_next}
 use Rattle.eb_bloom.proofs.filters.Filters.note.Goals as goal
 
-pub set_bits-requires-clause-within : goal.set_bits-requires-clause-within
-set_bits-requires-clause-within c =
-    let low : c.args.segment < c.self.inside.config.segments = subst (λ (b : Bits). c.args.segment < b.setting.segments) (sym c.self.view_is) c.requires in
-    let inside = first_within c.self.inside.config c.args.segment c.mixed_hash_of-mixed.result c.first_of.result c.terms-bits.result
-    c.self.invariant.setting low c.mixed_hash_of-mixed.type_inv c.terms-bits.ensures c.first_of.ensures in
-    omega (arith, inside, c.self.invariant.number, c.loop-term.auto.words, ap length c.as_mut_slice-words.ensures.value)
+pub set_bits-requires-clause-bit : goal.set_bits-requires-clause-bit
+set_bits-requires-clause-bit c =
+    let σ : Setting = c.self.inside.config in
+    let is = c.self.invariant.0 in
+    let low : c.args.segment < σ.segments = subst (λ (b : Bits). c.args.segment < b.setting.segments) (sym c.self.view_is) c.requires in
+    let inside = are_inside σ c.mixed_hash_of-mixed.result c.terms-rows.result c.first_of-first.result c.second_of-second.result c.self.inside.lanes (length c.self.inside.words.items)
+    is.setting c.mixed_hash_of-mixed.type_inv c.terms-rows.ensures c.first_of-first.ensures c.second_of-second.ensures c.self.invariant.1 is.number in
+    omega (arith, inside.row c.args.segment low, c.loop-term.auto.words, ap length c.as_mut_slice-words.ensures.value)
+
+pub set_bits-requires-clause-other : goal.set_bits-requires-clause-other
+set_bits-requires-clause-other c =
+    let σ : Setting = c.self.inside.config in
+    let is = c.self.invariant.0 in
+    let low : c.args.segment < σ.segments = subst (λ (b : Bits). c.args.segment < b.setting.segments) (sym c.self.view_is) c.requires in
+    let inside = are_inside σ c.mixed_hash_of-mixed.result c.terms-rows.result c.first_of-first.result c.second_of-second.result c.self.inside.lanes (length c.self.inside.words.items)
+    is.setting c.mixed_hash_of-mixed.type_inv c.terms-rows.ensures c.first_of-first.ensures c.second_of-second.ensures c.self.invariant.1 is.number in
+    omega (arith, inside.other c.args.segment low, c.loop-term.auto.words, ap length c.as_mut_slice-words.ensures.value)
 
 pub returns-clause-covers : goal.returns-clause-covers
 returns-clause-covers c σ docs h last =

@@ -4,7 +4,6 @@ use Rattle.eb_base.specs.Query.{tree, word}
 use Rattle.eb_place.proofs.LaterMoments.{later_self}
 use Rattle.eb_cursor.specs.Frames.{query_of}
 use Rattle.eb_cursor.specs.Greatest.{MatchesAt, AreFilled}
-use Rattle.eb_cursor.proofs.Absent.{all_likely}
 use Rattle.eb_cursor.proofs.Openings.{absent_matches}
 use Rattle.eb_cursor.proofs.Steps.{tree_Word, word_is}
 use Rattle.eb_cursor.proofs.frame.Frame.likely.Goals as goal
@@ -28,7 +27,7 @@ returns-in_default g c = record {
     st,
     later_self m,
     g.met.P.Port.keeps_itself c.args.port.now m st,
-    (λ s docs n no p h. absurd (false≢true (sym no ∙ all_likely 64 s))),
+    (λ s docs n no p h. absurd (false≢true (sym no ∙ c.all.ensures s))),
     (λ t e. absurd (c.in_default.not-Word t (word_is c.args.self.now.query t e))),
   );
   loads = omega arith;

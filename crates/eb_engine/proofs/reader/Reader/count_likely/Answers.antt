@@ -27,5 +27,5 @@ returns-clause-loads g c = λ t is.
     let e = c.count_words_likely-count.ensures in
     let knew = subst (λ (docs : List Doc). IsPrefix docs was.documents.accepted) (ap (λ (t : HistoryToken). t.docs) c.self.view_is) (front_of c.self.inside.seen was.documents.accepted) in
     let packed = subst (λ (k : ℕ). k ≤ was.conversions.converted) (ap (λ (t : HistoryToken). t.converted) c.self.view_is) c.self.invariant.2 in
-    bounded c.args.likely.now was _ _ _ e.made.moment (e.made.setting ∙ ap (λ (w : Words). w.setting) c.index.view_is) (counted_then _ _ _ e.counts.count e.counts.before)
+    bounded c.args.likely was _ _ _ e.made.moment (e.made.setting ∙ ap (λ (w : Words). w.setting) c.index.view_is) (counted_then _ _ _ e.counts.count e.counts.before)
     _ _ t _ _ _ (later_on _ _ _ e.counts.after e.counts.before) knew packed (e.loads t is)

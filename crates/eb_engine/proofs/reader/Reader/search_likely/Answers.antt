@@ -26,11 +26,11 @@ returns-clause-loads g c = λ t is.
     let e = c.search_words_likely-count.ensures in
     let knew = subst (λ (docs : List Doc). IsPrefix docs was.documents.accepted) (ap (λ (t : HistoryToken). t.docs) c.self.view_is) (front_of c.self.inside.seen was.documents.accepted) in
     let packed = subst (λ (k : ℕ). k ≤ was.conversions.converted) (ap (λ (t : HistoryToken). t.converted) c.self.view_is) c.self.invariant.2 in
-    bounded c.args.likely.now was _ _ _ e.made.moment (e.made.setting ∙ ap (λ (w : Words). w.setting) c.index.view_is) (counted_then _ _ _ e.answer.count e.answer.before)
+    bounded c.args.likely was _ _ _ e.made.moment (e.made.setting ∙ ap (λ (w : Words). w.setting) c.index.view_is) (counted_then _ _ _ e.answer.count e.answer.before)
     _ _ t _ _ _ (later_on _ _ _ e.answer.after e.answer.before) knew packed (e.loads t is)
 
 pub returns-clause-rounds : goal.returns-clause-rounds
 returns-clause-rounds g c = λ ts is.
     let e = c.search_words_likely-count.ensures in
-    and_bounded c.args.likely.now c.self.inside.seat.moment _ _ _ e.made.moment (e.made.setting ∙ ap (λ (w : Words). w.setting) c.index.view_is)
+    and_bounded c.args.likely c.self.inside.seat.moment _ _ _ e.made.moment (e.made.setting ∙ ap (λ (w : Words). w.setting) c.index.view_is)
     (counted_then _ _ _ e.answer.count e.answer.before) ts _ _ _ (e.rounds ts is)

@@ -12,4 +12,4 @@ pub returns-clause-loads : goal.returns-clause-loads
 returns-clause-loads g c = λ t is.
     let e = c.count_alone_likely.ensures in
     let here = ap (λ (w : Words). w.setting) (ap (λ (t : HistoryToken). t.index) c.self.view_is ∙ c.requires) in
-    count_bounded_alone _ c.count_alone_likely.new.seat.moment _ here e.documents c.self.invariant.1.idle c.args.likely.now _ _ t _ _ _ c.self.invariant.2 e.count (e.loads t is)
+    count_bounded_alone _ c.count_alone_likely.new.seat.moment _ here e.documents c.self.invariant.1.idle c.args.likely _ _ t _ _ _ c.self.invariant.2 e.count (e.loads t is)
