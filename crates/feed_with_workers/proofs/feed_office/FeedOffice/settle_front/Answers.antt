@@ -3,7 +3,7 @@ use Rattle.std.proofs.lemmas.List.{take_all}
 use Rattle.eb_cursor.specs.Frames.{query_of, k_of}
 use Rattle.eb_base.specs.Match.{answer}
 use Rattle.eb_feed.specs.Generations.{kept}
-use Rattle.feed_shared.specs.Turns.{counted, history_of, stretch_of}
+use Rattle.feed_shared.specs.Turns.{WriterToken, counted, history_of, stretch_of}
 use Rattle.feed_with_workers.specs.declared.feed_office.FeedOffice.{FeedOffice}
 use Rattle.feed_with_workers.specs.Offices.{docs_of, taken_by}
 use Rattle.feed_with_workers.proofs.Fronts.{reader_keeps, writer_keeps, settled_within, settled_front, counted_is}
@@ -32,7 +32,8 @@ returns-clause-same g c = same_office c.has_front.new.self _ refl refl c.search_
 
 pub returns-clause-within : goal.returns-clause-within
 returns-clause-within g c = λ few.
-    let count = c.search_unmetered.ensures.count ∙ ap (λ (o : FeedOffice). counted (docs_of o)) c.has_front.ensures.same in
+    let e = c.search_unmetered.ensures in
+    let count = e.count ∙ ap (λ (w : WriterToken). counted (taken_by w)) e.this ∙ ap (λ (o : FeedOffice). counted (docs_of o)) c.has_front.ensures.same in
     omega (arith, count, few)
 
 pub returns-clause-ids : goal.returns-clause-ids
@@ -42,8 +43,10 @@ returns-clause-ids g c = λ few.
     let docs = taken_by w in
     let q = query_of c.args.frame.now in
     let k = k_of c.args.frame.now in
-    let count = c.search_unmetered.ensures.count ∙ ap (λ (o : FeedOffice). counted (docs_of o)) same ∙ counted_is docs few in
+    let e = c.search_unmetered.ensures in
+    let count = e.count ∙ ap (λ (w : WriterToken). counted (taken_by w)) e.this ∙ ap (λ (o : FeedOffice). counted (docs_of o)) same ∙ counted_is docs few in
     let all : take c.search_unmetered.result docs ≡ docs = take_all c.search_unmetered.result docs (omega (arith, count)) in
-    let held = subst (λ (o : FeedOffice). o.feed.feed.held ≡ min o.feed.keep (length o.feed.feed.log)) same c.search_unmetered.ensures.held in
-    c.search_unmetered.ensures.ids ∙ ap (λ (o : FeedOffice). answer q k (stretch_of o.feed.feed.held o.feed.feed.log o.feed.feed.docs)) same
+    let own = subst (λ (w : WriterToken). w.feed.held ≡ min w.keep (length w.feed.log)) e.this e.held in
+    let held = subst (λ (o : FeedOffice). o.feed.feed.held ≡ min o.feed.keep (length o.feed.feed.log)) same own in
+    e.ids ∙ ap (λ (w : WriterToken). answer q k (stretch_of w.feed.held w.feed.log w.feed.docs)) e.this ∙ ap (λ (o : FeedOffice). answer q k (stretch_of o.feed.feed.held o.feed.feed.log o.feed.feed.docs)) same
     ∙ ap (answer q k) (writer_keeps w c.requires.staffed.taken held ∙ ap (kept w.setting w.keep) (sym all))
