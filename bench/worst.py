@@ -7,12 +7,14 @@ The lines are queries of up to 64 parts, counts, and messages beside 10,000 watc
 windows, of words that are repeated and of different ones, where they match, match at the very end, and can't match. Each is tried
 over few and many documents of 1,024 words, over short ones, and in several settings.
 
-The processor time of a line is that of a whole run with it, told by the system, less that of the run without it: each the least of
-N runs (2). So a line that takes less than some milliseconds isn't told from none, and nothing here is for comparing programs: that
-do bench/instructions.py and bench/plain_rust.py. Every line has to be answered. Nothing of this runs in the gate. The program is the
-launcher at the root, if no other is named.
+The processor time of lines is that of a whole run with them, told by the system, less that of the run without them: each the least
+of N runs (2). Lines that stand behind the same ones are tried together, and then halves of the slowest lines alone, until the
+slowest single ones are found, by far fewer runs than there are lines. A line that takes less than some milliseconds isn't told from
+none, and nothing here is for comparing programs: that do bench/instructions.py and bench/plain_rust.py. Every line has to be
+answered. Nothing of this runs in the gate. The program is the launcher at the root, if no other is named.
 """
 import argparse
+import heapq
 import os
 import random
 import subprocess
@@ -99,20 +101,39 @@ def queries():
     return found
 
 
-def cases(count):
-    """Each case: its name, the words of the run, what comes before the line, the line, and how many lines that is."""
+def groups(count):
+    """The lines that stand behind the same ones: what they are, the words of the run, what comes before, and each line with its name."""
     for setting, words in SETTINGS.items():
         for name, documents in texts(count if setting != "64 small segments" else count // 2).items():
             before = "".join(document(number, each) for number, each in enumerate(documents, 1))
-            for which, query in queries().items():
-                yield "%s, %d documents %s: ?%d of %s" % (setting, len(documents), name, MOST, which), ["run", *words], before, "?%d %s\n" % (MOST, query)
+            lines = [("?%d of %s" % (MOST, which), "?%d %s\n" % (MOST, query)) for which, query in queries().items()]
             for which in ("a", "63 words with OR", "not what is nowhere", "a window of 64 a, ~1023"):
-                yield "%s, %d documents %s: buckets of %s" % (setting, len(documents), name, which), ["run", "--counts", *words], before, "#0+2*%d %s\n" % (BUCKETS, queries()[which])
+                lines.append(("buckets of %s" % which, "#0+2*%d %s\n" % (BUCKETS, queries()[which])))
+            yield "%s, %d documents %s" % (setting, len(documents), name), ["run", "--counts", *words], before, lines
     for which, query in queries().items():
         before = "".join("!%d %s\n" % (number, query) for number in range(WATCHES))
-        for name, documents in texts(1).items():
-            if "16" not in name and "short" not in name:
-                yield "%d watches of %s, a message %s" % (WATCHES, which, name), ["run", "--watch"], before, document(1, documents[0])
+        lines = [("a message %s" % name, document(1, them[0])) for name, them in texts(1).items() if "16" not in name and "short" not in name]
+        yield "%d watches of %s" % (WATCHES, which), ["run", "--watch"], before, lines
+
+
+def slowest(runs, found, shown):
+    """The slowest single lines: of the lines that were tried together the slowest are halved, until they are single."""
+    waiting = []
+
+    def tried(name, words, before, lines):
+        heapq.heappush(waiting, (-runs.spent_by(words, before, "".join(line for _, line in lines), len(lines)), len(waiting), name, words, before, lines))
+
+    for group in found:
+        tried(*group)
+    while waiting and shown:
+        took, _, name, words, before, lines = heapq.heappop(waiting)
+        if len(lines) == 1:
+            shown -= 1
+            yield -took, "%s: %s" % (name, lines[0][0])
+        else:
+            half = len(lines) // 2
+            tried(name, words, before, lines[:half])
+            tried(name, words, before, lines[half:])
 
 
 class Runs:
@@ -121,7 +142,7 @@ class Runs:
     def __init__(self, program, times, folder):
         self.program, self.times = program, times
         self.path = os.path.join(folder, "lines")
-        self._last = None, 0.0
+        self._before = {}
 
     def seconds(self, words, text):
         """The least processor seconds of some runs over a text, and what they printed."""
@@ -139,20 +160,22 @@ class Runs:
             least = took if least is None else min(least, took)
         return least, printed
 
-    def spent_by(self, words, before, line):
-        """The processor seconds that a line takes behind others."""
-        if self._last[0] != (words, before):
-            self._last = (words, before), self.seconds(words, before)[0]
-        took, printed = self.seconds(words, before + line)
-        if line.startswith("{"):
-            answered = b"end: documents 1," in printed
+    def spent_by(self, words, before, lines, count):
+        """The processor seconds that so many lines take behind others."""
+        key = hash((*words, before))
+        if key not in self._before:
+            self._before[key] = self.seconds(words, before)[0]
+        took, printed = self.seconds(words, before + lines)
+        if lines.startswith("{"):
+            answered = b"end: documents %d," % count in printed
         else:
+            first = before.count("\n") + 1
             # (the last but the summary)
-            rows = printed.splitlines()
-            answered = len(rows) > 1 and b" refused: " not in rows[-2] and rows[-2].startswith(b"%d " % (before.count("\n") + 1))
+            rows = printed.splitlines()[-count - 1:-1]
+            answered = len(rows) == count and all(row.startswith(b"%d " % (first + at)) and b" refused: " not in row for at, row in enumerate(rows))
         if not answered:
-            raise SystemExit("%s: not answered: %.200s" % (words, line))
-        return max(0.0, took - self._last[1])
+            raise SystemExit("%s: not answered: %.200s" % (words, lines))
+        return max(0.0, took - self._before[key])
 
 
 def main():
@@ -161,17 +184,15 @@ def main():
     parser.add_argument("--times", type=int, default=2, metavar="N", help="runs of each, of which the least counts (2)")
     parser.add_argument("--shown", type=int, default=10, metavar="N", help="the lines that are printed (10)")
     parser.add_argument("--documents", type=int, default=1536, metavar="N", help="long documents (1536)")
-    parser.add_argument("--only", default="", metavar="WORD", help="the cases alone that have this in their names")
+    parser.add_argument("--only", default="", metavar="WORD", help="the lines alone whose documents or watches have this in their names")
     asked = parser.parse_args()
     with tempfile.TemporaryDirectory(prefix="earlybird-worst-") as folder:
-        runs, found = Runs(asked.program, asked.times, folder), []
-        for name, words, before, line in cases(asked.documents):
-            if asked.only in name:
-                found.append((runs.spent_by(words, before, line), name))
+        runs = Runs(asked.program, asked.times, folder)
+        found = (group for group in groups(asked.documents) if asked.only in group[0])
+        lines = sorted(slowest(runs, found, asked.shown), reverse=True)
     print("| processor time, seconds | a line |\n|---|---|")
-    for took, name in sorted(found, reverse=True)[:asked.shown]:
+    for took, name in lines:
         print("| %.3f | %s |" % (took, name))
-    print("\n%d lines were tried" % len(found))
 
 
 if __name__ == "__main__":
