@@ -119,9 +119,6 @@ fn rest_below<P: Port, L: Ledger>(
     ensures found { FindsSpan P.stands P.keeps port.old port.new limit cursors.old cursors.new end result }
     ensures loads { steps.new + loads_left cursors.new ≤ steps.old + loads_left cursors.old }
 {
-    if cursors.len() > 2 {
-        return many_below(limit, cursors, port, steps, end);
-    }
     if cursors.len() > 1 {
         return more_below(limit, cursors, port, steps, end);
     }
@@ -132,7 +129,7 @@ fn rest_below<P: Port, L: Ledger>(
     }
 }
 
-// Asks two terms, by a call.
+// Asks more than one term, by a call: two here, others in a loop.
 #[cycle(span_below)]
 fn more_below<P: Port, L: Ledger>(
     limit: u64,
@@ -146,6 +143,9 @@ fn more_below<P: Port, L: Ledger>(
     ensures found { FindsSpan P.stands P.keeps port.old port.new limit cursors.old cursors.new end result }
     ensures loads { steps.new + loads_left cursors.new ≤ steps.old + loads_left cursors.old }
 {
+    if cursors.len() > 2 {
+        return many_below(limit, cursors, port, steps, end);
+    }
     span_below(limit, cursors, port, steps, end)
 }
 
