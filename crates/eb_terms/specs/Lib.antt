@@ -1,3 +1,4 @@
+pub mod Hashing
 pub mod Finding
 pub mod Comparing
 pub mod Entering

@@ -1,6 +1,10 @@
-use Rattle.std.proofs.Common.{◌≡◌, take}
+use Rattle.std.proofs.Common.{◌≡◌, length}
 use Rattle.eb_place.specs.Placing.{hash}
+use Rattle.eb_terms.specs.Hashing.{hashed}
 use Rattle.eb_terms.proofs.hashing.hash_of.Given as goal
 
-abbrev pub invariant-loop-byte : goal.invariant-loop-byte
-invariant-loop-byte l = l.hash ≡ hash (take l.byte-index l.byte-items)
+abbrev pub invariant-loop-left : goal.invariant-loop-left
+invariant-loop-left l = hashed l.hash l.left ≡ hash l.term
+
+abbrev pub decreases-loop-left : goal.decreases-loop-left
+decreases-loop-left l = length l.left
