@@ -6,4 +6,3 @@ pub mod Covered
 pub mod VectorsBits
 pub mod PartMarks
 pub mod Likely
-pub mod Noting
