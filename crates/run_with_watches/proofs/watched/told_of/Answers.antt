@@ -4,7 +4,7 @@ use Rattle.run_with_watches.proofs.Telling.{told_most}
 use Rattle.run_with_watches.proofs.watched.told_of.Goals as goal
 
 pub returns-clause-few : goal.returns-clause-few
-returns-clause-few g c =
+returns-clause-few c =
     let most = c.len-most.ensures.few in
     let len = c.len-most.ensures.len in
     let few : length (watches_of c.args.watches.now) ≤ 10000 = omega (arith, most, len) in
