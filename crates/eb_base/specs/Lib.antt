@@ -1,4 +1,5 @@
 pub mod Term
+pub mod Hashing
 pub mod Document
 pub mod Query
 pub mod Match

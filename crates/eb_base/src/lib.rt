@@ -6,6 +6,7 @@
 mod config;
 mod document;
 mod gate;
+mod hashing;
 mod match_law;
 mod memory;
 mod query;

@@ -1,5 +1,7 @@
 ghost use Rattle.std.specs.Prelude.{◌≡◌, ℕ, ◌<◌, List, [], ◌∷◌, ◌++◌, length, slice_get, IfOk, OnOk, OnErr, MatchOption, Some, IsTrue, ◌↔◌};
+ghost use Rattle.eb_base.specs.Hashing.{hash};
 
+use crate::hashing::hash_of;
 use crate::memory::NoMemory;
 use smallvec::SmallVec;
 use std::alloc::Global;
@@ -9,21 +11,24 @@ use std::marker::Model;
 /// own.
 const BYTES_WITHIN: usize = 16;
 
-/// A term: one folded word of a text, as a list of bytes. A short one is kept in the term itself.
+/// A term: one folded word of a text, as a list of bytes. A short one is kept in the term itself. A
+/// term has the hash of its bytes, so no one hashes it again.
 #[derive(Debug, Drop)]
 pub struct Term {
+    hashed: u32,
     bytes: SmallVec<u8, BYTES_WITHIN>,
 }
 
 impl Model for Term {
-    ghost use Rattle.std.specs.Prelude.{ℕ, List};
+    ghost use Rattle.std.specs.Prelude.{◌≡◌, ℕ, List};
     ghost use Rattle.eb_base.specs.Term.{AreBytes};
+    ghost use Rattle.eb_base.specs.Hashing.{hash};
 
     ghost Value = { List ℕ };
 
     ghost view = { λ t. t.bytes.items };
 
-    ghost invariant = { λ t. AreBytes t.bytes.items };
+    ghost invariant = { λ t. AreBytes t.bytes.items × (t.hashed ≡ hash t.bytes.items) };
 }
 
 impl Term {
@@ -31,8 +36,17 @@ impl Term {
     pub fn new(alloc: Global, bytes: &[u8]) -> Result<Term, NoMemory>
         ensures { IfOk result (λ term. term ≡ bytes.now) }
     {
+        let hashed = hash_of(bytes);
         let bytes = SmallVec::from_slice(alloc, bytes)?;
-        Ok(Term { bytes })
+        Ok(Term { hashed, bytes })
+    }
+
+    /// The hash of the term, of 32 bits: 0, and for each byte 31 times the hash plus the byte, modulo
+    /// 2^32 (this project's profile, docs/FORMATS.md).
+    pub fn hash(&self) -> u32
+        ensures { result ≡ hash self.now }
+    {
+        self.hashed
     }
 
     /// The bytes of the term.

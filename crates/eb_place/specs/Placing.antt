@@ -2,6 +2,7 @@
 use Rattle.std.specs.Prelude.{ℕ, zero, suc, ◌+◌, ◌-◌, ◌*◌, ◌/◌, ◌%◌, ◌^◌, ◌&&◌, List, [], ◌∷◌, ◌++◌, length, map, take, drop, fold, sum_by, if◌then◌else◌, nat_le, ◌==◌}
 use Rattle.std.specs.List.{list_any}
 use Rattle.eb_base.specs.Term.{Term}
+pub use Rattle.eb_base.specs.Hashing.{hash}
 use Rattle.eb_base.specs.Document.{Doc}
 use Rattle.eb_base.specs.Setting.{Setting}
 use Rattle.eb_place.specs.Layout.{Slot, Region, pool_slot, place}
@@ -37,10 +38,6 @@ eights (suc n) bs = little_endian (take 8 bs) ∷ eights n (drop 8 bs)
 -- the text words of a term: its length in bytes, then its bytes, eight a word
 abbrev pub text_of : Term → List ℕ
 text_of t = length t ∷ eights ((length t + 7) / 8) t
-
--- the hash of a term, of 32 bits
-abbrev pub hash : Term → ℕ
-hash t = fold (λ h b. (h * 31 + b) % 2 ^ 32) 0 t
 
 -- the cell where the lookup of a term begins
 abbrev pub home_cell : ℕ → Term → ℕ

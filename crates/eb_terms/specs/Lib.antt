@@ -1,4 +1,3 @@
-pub mod Hashing
 pub mod Finding
 pub mod Comparing
 pub mod Entering
