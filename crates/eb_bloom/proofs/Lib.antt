@@ -6,3 +6,4 @@ pub mod Covered
 pub mod VectorsBits
 pub mod PartMarks
 pub mod Likely
+pub mod Noting

@@ -82,6 +82,14 @@ impl Filters {
         }
     }
 
+    /// Forgets all terms. Takes no memory.
+    pub fn clear(&mut self)
+        ensures bits { self.new ≡ record { setting = self.old.setting; words = replicate (length self.old.words) 0 } }
+        ensures covers { Covers self.new self.old.setting [] }
+    {
+        self.words.as_mut_slice().fill(0);
+    }
+
     /// In which of the first `begun` segments a query may match, by what is noted in their filters:
     /// a word, a phrase and a window in those where all their terms are noted, an And where each
     /// part may match, an Or where some part may, and a bound and a Not in all. The result is true

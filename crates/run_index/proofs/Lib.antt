@@ -1,3 +1,2 @@
 pub mod Conversions
 pub mod Indexes
-pub mod Noting

@@ -1,11 +1,11 @@
-use Rattle.std.proofs.Common.{◌≡◌, ◌+◌, ◌≤◌, List, [], ◌∷◌, ◌++◌, length, ap, ◌∙◌, subst, arith}
+use Rattle.std.proofs.Common.{◌≡◌, ◌≤◌, List, [], ◌∷◌, ◌++◌, length, ap, ◌∙◌, subst, arith}
 use Rattle.eb_base.specs.Document.{Doc}
 use Rattle.eb_base.specs.Setting.{Setting}
 use Rattle.eb_engine.specs.Tokens.{HistoryToken}
 use Rattle.eb_place.specs.Room.{cut, HasRoom}
 use Rattle.eb_table.specs.Known.{Words}
 use Rattle.run_index.specs.Conversions.{AreConverted}
-use Rattle.run_index.proofs.Noting.{cut_some}
+use Rattle.eb_bloom.proofs.Noting.{cut_some}
 use Rattle.run_index.proofs.indexed.Indexed.add.Goals as goal
 
 pub overflow_sub-segments : goal.overflow_sub-segments

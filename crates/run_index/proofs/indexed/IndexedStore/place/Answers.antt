@@ -1,4 +1,4 @@
-use Rattle.std.proofs.Common.{List, Bool, true, false, Option, None, Some, append-nil, ap, sym, ◌∙◌, subst, if◌then◌else◌}
+use Rattle.std.proofs.Common.{List, Bool, Option, None, Some, append-nil, ap, sym, ◌∙◌, subst, if◌then◌else◌}
 use Rattle.run_store.specs.Rules.{Rules}
 use Rattle.eb_base.specs.Document.{Doc}
 use Rattle.eb_lines.specs.declared.form.Form.{Form}
