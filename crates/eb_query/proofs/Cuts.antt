@@ -1,7 +1,7 @@
 -- Where lexemes begin and end in a line.
 use Rattle.eb_fields.specs.Dialect.{Dialect, plain}
 use Rattle.std.proofs.Common.{◌≡◌, ℕ, zero, suc, ◌+◌, ◌-◌, ◌<◌, ◌≤◌, nat_lt, eqb, ◌||◌, Bool, true, false, not, List, [], ◌∷◌, length, take}
-use Rattle.std.proofs.Common.{drop, get_or, Option, Some, None, refl, sym, ap, ◌∙◌, arith, subst, inl, inr, ◌⊎◌, ne_eqb, lt-ltb, le-ltb, ltb-false, drop-cons, length-drop}
+use Rattle.std.proofs.Common.{drop, get_or, Option, Some, refl, sym, ap, ◌∙◌, arith, subst, inl, inr, ◌⊎◌, ne_eqb, lt-ltb, le-ltb, ltb-false, drop-cons, length-drop}
 use Rattle.std.proofs.lemmas.Bool.{ltb-true, eqb-true, or_cases}
 use Rattle.std.proofs.lemmas.List.{get_or-drop, drop_all, drop-drop, take_all}
 use Rattle.std.proofs.lemmas.List.Sums.{passes_at_first, prefix_len-le-length}
@@ -9,13 +9,12 @@ use Rattle.std.proofs.lemmas.Str.{IsCharBoundary-before_ascii, IsCharBoundary-af
 use Rattle.std.specs.List.{position_or_len}
 use Rattle.std.specs.Str.{IsUtf8, IsCharBoundary}
 use Rattle.eb_fields.specs.Digits.{is_no_digit}
-use Rattle.eb_query.specs.Grammar.{Lexeme, opening, closing, minus, broken}
+use Rattle.eb_query.specs.Grammar.{Lexeme, opening, closing, minus, leaf, broken}
 use Rattle.eb_query.specs.Lexemes.{Placed, is_blank, ends_run, is_quote, run_lexeme, is_run_end, has_tilde, quoted_lexeme, tilde_len, text_lexeme, window_lexeme, quoted, bare}
 use Rattle.eb_query.specs.Lexemes.{first, first_with, lexemes}
-use Rattle.eb_query.specs.Reading.{bad_query, too_deep}
 use Rattle.eb_base.specs.Query.{Tree}
 use Rattle.eb_query.specs.declared.ask.Ask.{Ask}
-use Rattle.eb_query.specs.Machine.{State, step, is_deep, finish, ending, outcome}
+use Rattle.eb_query.specs.Machine.{State, state, level, start, step, is_deep, finish, ending, sized, outcome}
 
 pub first_opening : (how : Dialect) (b : ℕ) (bs : List ℕ) → b ≡ 40 → first how b bs ≡ (opening, 0)
 unfolding first
@@ -175,19 +174,17 @@ pub lexemes_end : (how : Dialect) (line : List ℕ) (at : ℕ) → length line �
 unfolding lexemes
 lexemes_end how line at h = ap (lexemes how 0 (at + 1)) (drop_all at line h)
 
--- what a step of the reader says of the outcome
-pub stood : (a : Ask) (how : Dialect) (line : List ℕ) (at end : ℕ) (l : Lexeme) (s t : State) → at < length line → is_blank (get_or line at 0) ≡ false
+-- the lexeme that begins at a place, and those after it
+pub lexemes_at : (how : Dialect) (line : List ℕ) (at end : ℕ) (l : Lexeme) → at < length line → is_blank (get_or line at 0) ≡ false
     → l ≡ (first_with how (get_or line at 0) (drop (at + 1) line)).0 → end ≡ at + 1 + (first_with how (get_or line at 0) (drop (at + 1) line)).1
-    → step l s ≡ Some t → is_deep l s ≡ false → outcome line a (lexemes how 0 (at + 1) (drop at line)) s ≡ outcome line a (lexemes how 0 (end + 1) (drop end line)) t
-stood a how line at end l s t h b i e p q = rw (lexemes_next how line at end h b e, ← i, p, q) refl
+    → lexemes how 0 (at + 1) (drop at line) ≡ record { column = at + 1; lexeme = l } ∷ lexemes how 0 (end + 1) (drop end line)
+lexemes_at how line at end l h b i e = lexemes_next how line at end h b e
+    ∙ ap (λ (x : Lexeme). record { column = at + 1; lexeme = x } ∷ lexemes how 0 (end + 1) (drop end line)) (sym i)
 
-pub misplaced : (a : Ask) (how : Dialect) (line : List ℕ) (at : ℕ) (l : Lexeme) (s : State) → at < length line → is_blank (get_or line at 0) ≡ false
-    → l ≡ (first_with how (get_or line at 0) (drop (at + 1) line)).0 → step l s ≡ None → outcome line a (lexemes how 0 (at + 1) (drop at line)) s ≡ bad_query (at + 1)
-misplaced a how line at l s h b i p = rw (lexemes_next how line at _ h b refl, ← i, p) refl
-
-pub deep : (a : Ask) (how : Dialect) (line : List ℕ) (at : ℕ) (l : Lexeme) (s t : State) → at < length line → is_blank (get_or line at 0) ≡ false
-    → l ≡ (first_with how (get_or line at 0) (drop (at + 1) line)).0 → step l s ≡ Some t → is_deep l s ≡ true → outcome line a (lexemes how 0 (at + 1) (drop at line)) s ≡ too_deep
-deep a how line at l s t h b i p q = rw (lexemes_next how line at _ h b refl, ← i, p, q) refl
+-- what a step of the reader says of the outcome
+pub stood : (a : Ask) (line : List ℕ) (p : Placed) (ps : List Placed) (s t : State) → step p.lexeme s ≡ Some t → is_deep p.lexeme s ≡ false
+    → outcome line a (p ∷ ps) s ≡ outcome line a ps t
+stood a line p ps s t e f = rw (e, f) refl
 
 -- what a range of the line reads
 pub rest_is : (line : List ℕ) (k : ℕ) → take (length line - k) (drop k line) ≡ drop k line
@@ -208,6 +205,13 @@ bare_part line part at n l h =
 pub at_end : (a : Ask) (how : Dialect) (line : List ℕ) (at : ℕ) (s : State) (o : Option Tree) →
     length line ≤ at → finish s ≡ o → outcome line a (lexemes how 0 (at + 1) (drop at line)) s ≡ ending line a o
 at_end a how line at s o h e = ap (λ (ps : List Placed). outcome line a ps s) (lexemes_end how line at h) ∙ ap (ending line a) e
+
+-- the outcome of a leaf that ends where the line ends
+pub leaf_alone : (a : Ask) (how : Dialect) (line : List ℕ) (at end : ℕ) (t : Tree) → at < length line → is_blank (get_or line at 0) ≡ false
+    → leaf t ≡ (first_with how (get_or line at 0) (drop (at + 1) line)).0 → end ≡ at + 1 + (first_with how (get_or line at 0) (drop (at + 1) line)).1
+    → length line ≤ end → outcome line a (lexemes how 0 (at + 1) (drop at line)) start ≡ sized a t
+leaf_alone a how line at end t h b i e k = ap (λ (ps : List Placed). outcome line a ps start) (lexemes_at how line at end (leaf t) h b i e)
+    ∙ at_end a how line end (state (level [] (t ∷ []) 0) []) (Some t) k refl
 
 pub nothing_left : (how : Dialect) (d : ℕ) → lexemes how 0 d [] ≡ []
 unfolding lexemes

@@ -5,6 +5,7 @@ pub mod Outcomes
 pub mod Cuts
 pub mod Values
 pub mod Formed
+pub mod Fits
 pub mod Asks
 pub mod Leaves
 pub mod WrittenLeaves

@@ -67,8 +67,8 @@ pub fn run_len(bytes: &[u8]) -> usize
 
 /// The lexeme of a text, by its tokens.
 #[tactic(auto, unfolding(crate::specs::Lexemes::text_lexeme))]
-pub fn text_of(alloc: Global, dialect: Dialect<'_>, text: &str) -> Result<Lexeme, NoMemory>
-    ensures { IfOk result (λ lexeme. lexeme_of lexeme ≡ text_lexeme (dialect_of dialect.entry) text.now) }
+pub fn text_of(alloc: Global, dialect: &Dialect<'_>, text: &str) -> Result<Lexeme, NoMemory>
+    ensures { IfOk result (λ lexeme. lexeme_of lexeme ≡ text_lexeme (dialect_of dialect.now) text.now) }
 {
     if let Some(term) = plain_token(alloc, text)? {
         return Ok(Lexeme::Leaf(Query::Word(term)));
@@ -81,8 +81,8 @@ pub fn text_of(alloc: Global, dialect: Dialect<'_>, text: &str) -> Result<Lexeme
 
 // The lexeme of a run.
 #[tactic(auto, unfolding(crate::specs::Lexemes::run_lexeme))]
-fn run_of(alloc: Global, dialect: Dialect<'_>, run: &str) -> Result<Lexeme, NoMemory>
-    ensures { IfOk result (λ lexeme. lexeme_of lexeme ≡ run_lexeme (dialect_of dialect.entry) run.now) }
+fn run_of(alloc: Global, dialect: &Dialect<'_>, run: &str) -> Result<Lexeme, NoMemory>
+    ensures { IfOk result (λ lexeme. lexeme_of lexeme ≡ run_lexeme (dialect_of dialect.now) run.now) }
 {
     if run == "OR" {
         return Ok(Lexeme::OrWord);
@@ -97,13 +97,13 @@ fn run_of(alloc: Global, dialect: Dialect<'_>, run: &str) -> Result<Lexeme, NoMe
 }
 
 // The run that begins at this place.
-fn bare_at(alloc: Global, dialect: Dialect<'_>, line: &str, at: usize) -> Result<Found, NoMemory>
+fn bare_at(alloc: Global, dialect: &Dialect<'_>, line: &str, at: usize) -> Result<Found, NoMemory>
     requires boundary { IsCharBoundary line.now at }
     requires within { at < length line.now }
     ensures lexeme { IfOk result (λ found.
-        lexeme_of found.lexeme ≡ (bare (dialect_of dialect.entry) (slice_index line.now at) (drop (at + 1) line.now)).0) }
+        lexeme_of found.lexeme ≡ (bare (dialect_of dialect.now) (slice_index line.now at) (drop (at + 1) line.now)).0) }
     ensures end { IfOk result (λ found.
-        found.end ≡ at + 1 + (bare (dialect_of dialect.entry) (slice_index line.now at) (drop (at + 1) line.now)).1) }
+        found.end ≡ at + 1 + (bare (dialect_of dialect.now) (slice_index line.now at) (drop (at + 1) line.now)).1) }
     ensures boundary { IfOk result (λ found. IsCharBoundary line.now found.end) }
 {
     let len = run_len(&line.as_bytes()[at + 1..]);
@@ -113,13 +113,13 @@ fn bare_at(alloc: Global, dialect: Dialect<'_>, line: &str, at: usize) -> Result
 }
 
 // The lexeme that begins at this place of the line, where there is no blank and no field is named.
-fn first_at(alloc: Global, dialect: Dialect<'_>, line: &str, at: usize) -> Result<Found, NoMemory>
+fn first_at(alloc: Global, dialect: &Dialect<'_>, line: &str, at: usize) -> Result<Found, NoMemory>
     requires boundary { IsCharBoundary line.now at }
     requires within { at < length line.now }
     ensures lexeme { IfOk result (λ found.
-        lexeme_of found.lexeme ≡ (first (dialect_of dialect.entry) (slice_index line.now at) (drop (at + 1) line.now)).0) }
+        lexeme_of found.lexeme ≡ (first (dialect_of dialect.now) (slice_index line.now at) (drop (at + 1) line.now)).0) }
     ensures end { IfOk result (λ found.
-        found.end ≡ at + 1 + (first (dialect_of dialect.entry) (slice_index line.now at) (drop (at + 1) line.now)).1) }
+        found.end ≡ at + 1 + (first (dialect_of dialect.now) (slice_index line.now at) (drop (at + 1) line.now)).1) }
     ensures boundary { IfOk result (λ found. IsCharBoundary line.now found.end) }
 {
     let byte = line.as_bytes()[at];
@@ -150,16 +150,16 @@ fn first_at(alloc: Global, dialect: Dialect<'_>, line: &str, at: usize) -> Resul
 /// The lexeme that begins at this place of the line, where there is no blank.
 pub fn lexeme_at(
     alloc: Global,
-    dialect: Dialect<'_>,
+    dialect: &Dialect<'_>,
     line: &str,
     at: usize,
 ) -> Result<Found, NoMemory>
     requires boundary { IsCharBoundary line.now at }
     requires within { at < length line.now }
     ensures lexeme { IfOk result (λ found.
-        lexeme_of found.lexeme ≡ (first_with (dialect_of dialect.entry) (slice_index line.now at) (drop (at + 1) line.now)).0) }
+        lexeme_of found.lexeme ≡ (first_with (dialect_of dialect.now) (slice_index line.now at) (drop (at + 1) line.now)).0) }
     ensures end { IfOk result (λ found.
-        found.end ≡ at + 1 + (first_with (dialect_of dialect.entry) (slice_index line.now at) (drop (at + 1) line.now)).1) }
+        found.end ≡ at + 1 + (first_with (dialect_of dialect.now) (slice_index line.now at) (drop (at + 1) line.now)).1) }
     ensures boundary { IfOk result (λ found. IsCharBoundary line.now found.end) }
 {
     match dialect.fields.begun_by(&line[at..]) {

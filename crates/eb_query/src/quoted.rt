@@ -76,7 +76,7 @@ fn window_leaf(alloc: Global, cut: Cut, text: &str, reach: Option<u32>) -> Resul
 // The window text of this text, after whose tilde the digits begin at this place of the line.
 fn window_at(
     alloc: Global,
-    dialect: Dialect<'_>,
+    dialect: &Dialect<'_>,
     text: &str,
     line: &str,
     from: usize,
@@ -84,7 +84,7 @@ fn window_at(
     requires within { from ≤ length line.now }
     requires boundary { IsCharBoundary line.now from }
     ensures lexeme { IfOk result (λ found.
-        lexeme_of found.lexeme ≡ window_lexeme (dialect_of dialect.entry) text.now (drop from line.now)) }
+        lexeme_of found.lexeme ≡ window_lexeme (dialect_of dialect.now) text.now (drop from line.now)) }
     ensures end { IfOk result (λ found.
         found.end ≡ from + position_or_len is_no_digit (drop from line.now)) }
     ensures boundary { IfOk result (λ found. IsCharBoundary line.now found.end) }
@@ -102,7 +102,7 @@ fn window_at(
 // of the line.
 fn closed_at(
     alloc: Global,
-    dialect: Dialect<'_>,
+    dialect: &Dialect<'_>,
     text: &str,
     line: &str,
     behind: usize,
@@ -110,7 +110,7 @@ fn closed_at(
     requires within { behind ≤ length line.now }
     requires boundary { IsCharBoundary line.now behind }
     ensures lexeme { IfOk result (λ found.
-        lexeme_of found.lexeme ≡ quoted_lexeme (dialect_of dialect.entry) text.now (drop behind line.now)) }
+        lexeme_of found.lexeme ≡ quoted_lexeme (dialect_of dialect.now) text.now (drop behind line.now)) }
     ensures end { IfOk result (λ found. found.end ≡ behind + tilde_len (drop behind line.now)) }
     ensures boundary { IfOk result (λ found. IsCharBoundary line.now found.end) }
 {
@@ -127,16 +127,16 @@ fn closed_at(
 /// The quoted text or the window text whose first quotation mark is at this place.
 pub fn quoted_at(
     alloc: Global,
-    dialect: Dialect<'_>,
+    dialect: &Dialect<'_>,
     line: &str,
     at: usize,
 ) -> Result<Found, NoMemory>
     requires within { at < length line.now }
     requires quote { slice_index line.now at ≡ 34 }
     ensures lexeme { IfOk result (λ found.
-        lexeme_of found.lexeme ≡ (quoted (dialect_of dialect.entry) (drop (at + 1) line.now)).0) }
+        lexeme_of found.lexeme ≡ (quoted (dialect_of dialect.now) (drop (at + 1) line.now)).0) }
     ensures end { IfOk result (λ found.
-        found.end ≡ at + 1 + (quoted (dialect_of dialect.entry) (drop (at + 1) line.now)).1) }
+        found.end ≡ at + 1 + (quoted (dialect_of dialect.now) (drop (at + 1) line.now)).1) }
     ensures boundary { IfOk result (λ found. IsCharBoundary line.now found.end) }
 {
     let start = at + 1;

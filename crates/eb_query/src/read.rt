@@ -1,19 +1,20 @@
-ghost use Rattle.std.specs.Prelude.{◌≡◌, ◌+◌, ◌≤◌, true, length, drop, slice_get, IfOk, IfErr};
+ghost use Rattle.std.specs.Prelude.{◌≡◌, ◌+◌, ◌<◌, ◌≤◌, true, false, ◌∷◌, length, drop, slice_get, slice_index, IfOk, IfErr, OnOk, OnErr};
 ghost use Rattle.std.specs.Str.{IsCharBoundary};
 ghost use Rattle.eb_base.specs.Query.{tree, IsWellFormed};
-ghost use Rattle.eb_query.specs.Lexemes.{lexemes};
-ghost use Rattle.eb_fields.specs.Dialect.{dialect_of, uncounted};
+ghost use Rattle.eb_query.specs.Lexemes.{lexemes, is_blank};
+ghost use Rattle.eb_fields.specs.Dialect.{Dialect as Spoken, dialect_of, uncounted};
 ghost use Rattle.eb_query.specs.Head.{begins_query, IsWithin};
 ghost use Rattle.eb_query.specs.declared.ask.Ask.TheVariants.{Newest};
 ghost use Rattle.eb_query.specs.Reading.{asks, ReadsAs, ReadsWith};
 ghost use Rattle.eb_query.specs.Refusal.{IsRefused, IsRefusedWith};
 ghost use Rattle.eb_query.specs.Machine.{start, outcome};
-ghost use Rattle.eb_query.specs.Views.{Finds};
+ghost use Rattle.eb_query.specs.Views.{Finds, lexeme_of};
+ghost use Rattle.eb_query.specs.declared.read.QueryFault.TheVariants as faults;
 ghost use Rattle.eb_base.specs.Match.{most_matches};
 
 use crate::ask::Ask;
 use crate::head::{Head, head_at};
-use crate::lexeme::{is_blank_byte, lexeme_at};
+use crate::lexeme::{Found, Lexeme, is_blank_byte, lexeme_at};
 use crate::reader::{Reader, Step};
 use eb_base::{NoMemory, Query};
 use eb_fields::Dialect;
@@ -77,49 +78,114 @@ impl From<NoMemory> for QueryFault {
     }
 }
 
-// What the text after the head of this line asks.
+// The place of the first byte from this one on that is no blank, or the end of the line.
+#[inline(always)]
+fn skip_blanks(line: &str, from: usize) -> usize
+    requires boundary { IsCharBoundary line.now from }
+    requires within { from ≤ length line.now }
+    ensures lexemes { (how : Spoken) → lexemes how 0 (from + 1) (drop from line.now) ≡ lexemes how 0 (result + 1) (drop result line.now) }
+    ensures from { from ≤ result }
+    ensures within { result ≤ length line.now }
+    ensures stops { result < length line.now → is_blank (slice_index line.now result) ≡ false }
+    ensures boundary { IsCharBoundary line.now result }
+{
+    let mut at = from;
+    while at < line.len() && is_blank_byte(line.as_bytes()[at]) {
+        at += 1;
+    }
+    at
+}
+
+// The fault of a line that ends before its query is complete.
+fn incomplete(line: &str) -> QueryFault
+    ensures { result ≡ faults.BadQuery (length line.now + 1) }
+{
+    QueryFault::BadQuery {
+        column: line.len() as u64 + 1,
+    }
+}
+
+// The query, where it is well formed.
+#[inline(always)]
+fn fitting(query: Query) -> Result<Query, QueryFault>
+    ensures same { IfOk result (λ fit. fit ≡ query) }
+    ensures well_formed { OnOk result (IsWellFormed (tree query)) }
+    ensures too_large { IfErr result (λ fault. fault ≡ faults.TooManyNodes) }
+    ensures unfit { OnErr result (IsWellFormed (tree query) → ⊥) }
+{
+    if query.is_well_formed() {
+        Ok(query)
+    } else {
+        Err(QueryFault::TooManyNodes)
+    }
+}
+
+// What the text after the head of this line asks, whose first lexeme is this one and begins here.
+#[inline(never)]
+fn read_rest(
+    alloc: Global,
+    dialect: &Dialect<'_>,
+    line: &str,
+    head: Head,
+    begin: usize,
+    first: Found,
+) -> Result<Query, QueryFault>
+    requires first { lexemes (dialect_of dialect.now) 0 (head.end + 1) (drop head.end line.now)
+        ≡ record { column = begin + 1; lexeme = lexeme_of first.lexeme } ∷ lexemes (dialect_of dialect.now) 0 (first.end + 1) (drop first.end line.now) }
+    requires within { begin < length line.now }
+    requires after { begin < first.end }
+    requires boundary { IsCharBoundary line.now first.end }
+    ensures { Finds head.ask
+        (outcome line.now head.ask (lexemes (dialect_of dialect.now) 0 (head.end + 1) (drop head.end line.now)) start) result }
+{
+    let mut reader = Reader::new(alloc);
+    let mut at = begin;
+    let mut found = first;
+    loop {
+        match reader.read(alloc, found.lexeme)? {
+            Step::Stood => {}
+            Step::Misplaced => {
+                return Err(QueryFault::BadQuery {
+                    column: at as u64 + 1,
+                });
+            }
+            Step::Deep => return Err(QueryFault::TooDeep),
+        }
+        at = skip_blanks(line, found.end);
+        if at == line.len() {
+            break;
+        }
+        found = lexeme_at(alloc, dialect, line, at)?;
+    }
+    match reader.finish()? {
+        None => Err(incomplete(line)),
+        Some(query) => fitting(query),
+    }
+}
+
+// What the text after the head of this line asks. A leaf alone needs no reader.
 pub(crate) fn read_text(
     alloc: Global,
-    dialect: Dialect<'_>,
+    dialect: &Dialect<'_>,
     line: &str,
     head: Head,
 ) -> Result<Query, QueryFault>
     requires boundary { IsCharBoundary line.now head.end }
     requires within { head.end ≤ length line.now }
     ensures { Finds head.ask
-        (outcome line.now head.ask (lexemes (dialect_of dialect.entry) 0 (head.end + 1) (drop head.end line.now)) start) result }
+        (outcome line.now head.ask (lexemes (dialect_of dialect.now) 0 (head.end + 1) (drop head.end line.now)) start) result }
 {
-    let mut reader = Reader::new(alloc);
-    let mut at = head.end;
-    while at < line.len() {
-        if is_blank_byte(line.as_bytes()[at]) {
-            at += 1;
-        } else {
-            let found = lexeme_at(alloc, dialect, line, at)?;
-            match reader.read(alloc, found.lexeme)? {
-                Step::Stood => {}
-                Step::Misplaced => {
-                    return Err(QueryFault::BadQuery {
-                        column: at as u64 + 1,
-                    });
-                }
-                Step::Deep => return Err(QueryFault::TooDeep),
-            }
-            at = found.end;
-        }
+    let at = skip_blanks(line, head.end);
+    if at == line.len() {
+        return Err(incomplete(line));
     }
-    match reader.finish()? {
-        None => Err(QueryFault::BadQuery {
-            column: line.len() as u64 + 1,
-        }),
-        Some(query) => {
-            if query.is_well_formed() {
-                Ok(query)
-            } else {
-                Err(QueryFault::TooManyNodes)
-            }
-        }
+    let found = lexeme_at(alloc, dialect, line, at)?;
+    if found.end == line.len()
+        && let Lexeme::Leaf(query) = found.lexeme
+    {
+        return fitting(query);
     }
+    read_rest(alloc, dialect, line, head, at, found)
 }
 
 /// What a line that begins with `?` asks: how many matches, 1 to 1,000, and a well-formed query
@@ -171,7 +237,7 @@ pub fn read_query_with(
     ensures within { IfOk result (λ asked. asked.0 ≤ most_matches) }
     ensures well_formed { IfOk result (λ asked. IsWellFormed (tree asked.1)) }
 {
-    match read_ask(alloc, dialect.uncounted(), line) {
+    match read_ask(alloc, &dialect.uncounted(), line) {
         Ok((Ask::Newest(k), query)) => Ok((k, query)),
         Ok((Ask::Counts { .. }, _)) => unreachable!(),
         Err(fault) => Err(fault),
@@ -188,14 +254,18 @@ pub fn read_query_with(
 ///
 /// Each [`QueryFault`] says when it comes; `NoMemory` comes where a growth was refused.
 #[inline(always)]
-pub fn read_ask(alloc: Global, dialect: Dialect<'_>, line: &str) -> Result<(Ask, Query), QueryFault>
-    requires begins { begins_query (dialect_of dialect) line.now ≡ true }
-    ensures asks { IfOk result (λ asked. ReadsWith (dialect_of dialect.entry) line.now (asks asked.0 (tree asked.1))) }
-    ensures refused { IfErr result (IsRefusedWith (dialect_of dialect.entry) line.now) }
+pub fn read_ask(
+    alloc: Global,
+    dialect: &Dialect<'_>,
+    line: &str,
+) -> Result<(Ask, Query), QueryFault>
+    requires begins { begins_query (dialect_of dialect.now) line.now ≡ true }
+    ensures asks { IfOk result (λ asked. ReadsWith (dialect_of dialect.now) line.now (asks asked.0 (tree asked.1))) }
+    ensures refused { IfErr result (IsRefusedWith (dialect_of dialect.now) line.now) }
     ensures within { IfOk result (λ asked. IsWithin asked.0) }
     ensures well_formed { IfOk result (λ asked. IsWellFormed (tree asked.1)) }
 {
-    let Some(head) = head_at(dialect, line) else {
+    let Some(head) = head_at(*dialect, line) else {
         return Err(QueryFault::BadNumber);
     };
     let query = read_text(alloc, dialect, line, head)?;

@@ -68,6 +68,6 @@ pub fn read_watch_with(
         ask: Ask::Newest(number.value),
         end: number.end,
     };
-    let query = read_text(alloc, dialect, line, head)?;
+    let query = read_text(alloc, &dialect, line, head)?;
     Ok((number.value, Some(query)))
 }

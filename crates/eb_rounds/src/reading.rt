@@ -58,7 +58,7 @@ fn marked_work(alloc: Global, dialect: Dialect<'_>, text: &str) -> Result<AskedW
     requires { begins (dialect_of dialect) text.now ≡ true }
     ensures { IfOk result (λ work. ReadsByKind (dialect_of dialect.entry) kind.query_line text.now (asked_reading work)) }
 {
-    match read_question(alloc, dialect, text)? {
+    match read_question(alloc, &dialect, text)? {
         Ok((ask, query)) => asked_work(alloc, ask, query),
         Err(refusal) => Ok(AskedWork::Refuse(refusal)),
     }

@@ -70,7 +70,7 @@ fn read_query(
     requires { begins_query (dialect_of dialect) text.now ≡ true }
     ensures { IfOk result (IsTaskOfKind (dialect_of dialect.entry) query_line text.now) }
 {
-    match read_question(alloc, dialect, text)? {
+    match read_question(alloc, &dialect, text)? {
         Ok((ask, query)) => Ok(Err(Other::Ask(Question { ask, query }))),
         Err(refusal) => Ok(Err(Other::Refuse(refusal))),
     }

@@ -170,7 +170,7 @@ impl<'a, G: Gate, S: Store> Answering<'a, G, S> {
             × TakesLine S.other S.holds self.old self.new text.old.items text.new.items r) }
         ensures err { OnErr result ((self.new ≡ self.old) × (text.new.items ≡ text.old.items)) }
     {
-        match read_question(self.alloc, self.dialect, query)? {
+        match read_question(self.alloc, &self.dialect, query)? {
             Ok((ask, query)) => self.answer(ask, query, text),
             Err(refusal) => self.refuse(refusal, text),
         }

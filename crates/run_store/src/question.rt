@@ -13,11 +13,11 @@ use std::alloc::Global;
 #[inline(always)]
 pub fn read_question(
     alloc: Global,
-    dialect: Dialect<'_>,
+    dialect: &Dialect<'_>,
     text: &str,
 ) -> Result<Result<(Ask, Query), Refusal>, NoMemory>
-    requires { begins_query (dialect_of dialect) text.now ≡ true }
-    ensures { IfOk result (λ read. IsQuestion (dialect_of dialect.entry) text.now read) }
+    requires { begins_query (dialect_of dialect.now) text.now ≡ true }
+    ensures { IfOk result (λ read. IsQuestion (dialect_of dialect.now) text.now read) }
 {
     match read_ask(alloc, dialect, text) {
         Ok(asked) => Ok(Ok(asked)),

@@ -399,7 +399,7 @@ impl<'a, O: Office> Serving<'a, O> {
         ensures ok { OnOk result (TakesRead O.holds O.asked self.old self.new query_line text.now) }
         ensures err { OnErr result (self.new ≡ self.old) }
     {
-        match read_question(alloc, self.dialect, text)? {
+        match read_question(alloc, &self.dialect, text)? {
             Ok((ask, query)) => self.answer(rt, alloc, ask, query, gate),
             Err(refusal) => {
                 self.refuse(refusal);

@@ -12,7 +12,7 @@ window_at-requires-clause-boundary c =
 pub returns-then-has_tilde_at-clause-lexeme : goal.returns-then-has_tilde_at-clause-lexeme
 returns-then-has_tilde_at-clause-lexeme c =
     let t = rw c.as_bytes.ensures.value at (sym c.has_tilde_at.ensures ∙ c.if-has_tilde_at.true) in
-    rw (closed_window (dialect_of c.args.dialect) c.args.text.now c.args.line.now c.args.behind t) c.window_at.ensures.lexeme
+    rw (closed_window (dialect_of c.args.dialect.now) c.args.text.now c.args.line.now c.args.behind t) c.window_at.ensures.lexeme
 
 pub returns-then-has_tilde_at-clause-end : goal.returns-then-has_tilde_at-clause-end
 returns-then-has_tilde_at-clause-end c =
@@ -22,7 +22,7 @@ returns-then-has_tilde_at-clause-end c =
 pub returns-clause-lexeme : goal.returns-clause-lexeme
 returns-clause-lexeme c =
     let t = rw c.as_bytes.ensures.value at (sym c.has_tilde_at.ensures ∙ c.if-has_tilde_at.false) in
-    c.in_ok-lexeme.ensures ∙ sym (quoted_text (dialect_of c.args.dialect) c.args.text.now (drop c.args.behind c.args.line.now) t)
+    c.in_ok-lexeme.ensures ∙ sym (quoted_text (dialect_of c.args.dialect.now) c.args.text.now (drop c.args.behind c.args.line.now) t)
 
 pub returns-clause-end : goal.returns-clause-end
 returns-clause-end c =

@@ -10,13 +10,13 @@ use Rattle.eb_query.proofs.quoted.quoted_at.Goals as goal
 pub returns-then-len-line-clause-lexeme : goal.returns-then-len-line-clause-lexeme
 returns-then-len-line-clause-lexeme c =
     let e = found_len is_quote c.as_bytes.result.now c.args.line.now c.args.at c.quote_at-len.result c.as_bytes.ensures.value c.quote_at-len.ensures in let h = c.if-len-line.true in
-    sym (ap (λ (p : Lexeme × ℕ). p.0) (quoted_none (dialect_of c.args.dialect) (drop (c.args.at + 1) c.args.line.now) c.quote_at-len.result e
+    sym (ap (λ (p : Lexeme × ℕ). p.0) (quoted_none (dialect_of c.args.dialect.now) (drop (c.args.at + 1) c.args.line.now) c.quote_at-len.result e
     (omega (arith, length-drop (c.args.at + 1) c.args.line.now))))
 
 pub returns-then-len-line-clause-end : goal.returns-then-len-line-clause-end
 returns-then-len-line-clause-end c =
     let e = found_len is_quote c.as_bytes.result.now c.args.line.now c.args.at c.quote_at-len.result c.as_bytes.ensures.value c.quote_at-len.ensures in let h = c.if-len-line.true in
-    rw (quoted_none (dialect_of c.args.dialect) (drop (c.args.at + 1) c.args.line.now) c.quote_at-len.result e (omega (arith, length-drop (c.args.at + 1) c.args.line.now)))
+    rw (quoted_none (dialect_of c.args.dialect.now) (drop (c.args.at + 1) c.args.line.now) c.quote_at-len.result e (omega (arith, length-drop (c.args.at + 1) c.args.line.now)))
     (omega (arith, length-drop (c.args.at + 1) c.args.line.now))
 
 pub overflow_add-quote : goal.overflow_add-quote
@@ -43,7 +43,7 @@ pub returns-clause-lexeme : goal.returns-clause-lexeme
 returns-clause-lexeme c =
     let e = found_len is_quote c.as_bytes.result.now c.args.line.now c.args.at c.quote_at-len.result c.as_bytes.ensures.value c.quote_at-len.ensures in
     let h = c.if-len-line.false in let w = cut_within is_quote c.args.line.now c.args.at c.quote_at-len.result c.requires.within e in
-    let q = quoted_is (dialect_of c.args.dialect) c.args.line.now c.range.result.now c.args.at c.quote_at-len.result e
+    let q = quoted_is (dialect_of c.args.dialect.now) c.args.line.now c.range.result.now c.args.at c.quote_at-len.result e
     (omega (arith, length-drop (c.args.at + 1) c.args.line.now)) c.range.ensures.value in
     rw q c.closed_at.ensures.lexeme
 
@@ -51,6 +51,6 @@ pub returns-clause-end : goal.returns-clause-end
 returns-clause-end c =
     let e = found_len is_quote c.as_bytes.result.now c.args.line.now c.args.at c.quote_at-len.result c.as_bytes.ensures.value c.quote_at-len.ensures in
     let h = c.if-len-line.false in let w = cut_within is_quote c.args.line.now c.args.at c.quote_at-len.result c.requires.within e in
-    let q = quoted_is (dialect_of c.args.dialect) c.args.line.now c.range.result.now c.args.at c.quote_at-len.result e
+    let q = quoted_is (dialect_of c.args.dialect.now) c.args.line.now c.range.result.now c.args.at c.quote_at-len.result e
     (omega (arith, length-drop (c.args.at + 1) c.args.line.now)) c.range.ensures.value in
-    rw (quoted_end (dialect_of c.args.dialect) c.args.line.now c.args.at c.quote_at-len.result _ q) c.closed_at.ensures.end
+    rw (quoted_end (dialect_of c.args.dialect.now) c.args.line.now c.args.at c.quote_at-len.result _ q) c.closed_at.ensures.end

@@ -12,7 +12,7 @@ reach_at-requires c = found_within is_no_digit _ _ c.digits_at-digits.ensures
 pub returns-clause-lexeme : goal.returns-clause-lexeme
 returns-clause-lexeme c =
     c.in_ok-lexeme.ensures
-    ∙ window_is (dialect_of c.args.dialect) c.args.text.now c.as_bytes.result.now c.args.line.now c.args.from c.digits_at-digits.result c.reach_at.result c.as_bytes.ensures.value
+    ∙ window_is (dialect_of c.args.dialect.now) c.args.text.now c.as_bytes.result.now c.args.line.now c.args.from c.digits_at-digits.result c.reach_at.result c.as_bytes.ensures.value
     c.digits_at-digits.ensures c.reach_at.ensures
 
 pub returns-clause-boundary : goal.returns-clause-boundary

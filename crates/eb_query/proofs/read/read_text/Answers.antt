@@ -1,71 +1,43 @@
 use Rattle.eb_fields.specs.Dialect.{dialect_of}
-use Rattle.std.proofs.Common.{◌≡◌, ◌+◌, ℕ, List, ◌∙◌, sym, ap, drop, false, true, get_or, Some, None, true≢false}
-use Rattle.std.proofs.lemmas.Str.{IsCharBoundary-after_ascii}
+use Rattle.std.proofs.Common.{◌+◌, ◌<◌, ◌≤◌, List, ◌∙◌, sym, ap, subst, refl, length, drop, None, Err, arith}
 use Rattle.eb_base.specs.Query.{tree}
-use Rattle.eb_query.specs.Lexemes.{Placed, is_blank}
-use Rattle.eb_query.specs.Machine.{outcome}
-use Rattle.eb_query.specs.Views.{state_of, lexeme_of}
-use Rattle.eb_query.proofs.Cuts.{lexemes_blank, blank_small, stood, misplaced, deep, at_end}
-use Rattle.eb_query.proofs.Formed.{sized_fits, sized_large}
+use Rattle.eb_query.specs.Lexemes.{Placed, lexemes}
+use Rattle.eb_base.specs.declared.query.Query.{Query}
+use Rattle.eb_query.specs.Machine.{start, sized, outcome}
+use Rattle.eb_query.specs.Views.{lexeme_of, Finds}
+use Rattle.eb_query.specs.declared.read.QueryFault.{QueryFault}
+use Rattle.eb_query.proofs.Cuts.{lexemes_at, leaf_alone, at_end}
+use Rattle.eb_query.proofs.Fits.{fits_finds}
 use Rattle.eb_query.proofs.read.read_text.Goals as goal
 
-pub loop-at-preserved-then-is_blank_byte : goal.loop-at-preserved-then-is_blank_byte
-loop-at-preserved-then-is_blank_byte c =
-    let b : is_blank (get_or c.args.line.now c.loop-at.at 0) ≡ true = ap (λ (xs : List ℕ). is_blank (get_or xs c.loop-at.at 0)) (sym c.as_bytes.ensures.value)
-    ∙ sym c.is_blank_byte.ensures ∙ c.if-is_blank_byte.true in
-    record {
-      told = ap (λ (ps : List Placed). outcome c.args.line.now c.args.head.ask ps (state_of c.loop-at.reader))
-          (sym (lexemes_blank (dialect_of c.args.dialect) c.args.line.now c.loop-at.at c.loop-at-test.true b)) ∙ c.loop-at.invariant.told;
-      counted = c.loop-at.invariant.counted;
-      boundary = IsCharBoundary-after_ascii c.args.line.now c.loop-at.at c.utf8.line c.loop-at-test.true (blank_small _ b);
-    }
+pub returns-then-at-line : goal.returns-then-at-line
+returns-then-at-line c =
+    let how = dialect_of c.args.dialect.now in let line = c.args.line.now in let a = c.args.head.ask in
+    let f = c.if-at-line.true in
+    let k : length line ≤ c.skip_blanks-at.result = omega arith in
+    let told = ap (λ (ps : List Placed). outcome line a ps start) (c.skip_blanks-at.ensures.lexemes how) ∙ at_end a how line c.skip_blanks-at.result start None k refl in
+    subst (λ (x : QueryFault). Finds a (outcome line a (lexemes how 0 (c.args.head.end + 1) (drop c.args.head.end line)) start) (Err x)) (sym c.incomplete.ensures) told
 
-pub returns-in-Misplaced : goal.returns-in-Misplaced
-returns-in-Misplaced c =
-    let b : is_blank (get_or c.args.line.now c.loop-at.at 0) ≡ false = ap (λ (xs : List ℕ). is_blank (get_or xs c.loop-at.at 0)) (sym c.as_bytes.ensures.value)
-    ∙ sym c.is_blank_byte.ensures ∙ c.if-is_blank_byte.false in
-    let s = rw c.in-Misplaced.is at c.in_ok-read.ensures.steps in
-    sym c.loop-at.invariant.told ∙ misplaced c.args.head.ask (dialect_of c.args.dialect) c.args.line.now c.loop-at.at (lexeme_of c.in_ok-found.found.lexeme) (state_of c.loop-at.reader)
-    c.loop-at-test.true b c.in_ok-found.ensures.lexeme s
+pub returns : goal.returns
+returns c =
+    let how = dialect_of c.args.dialect.now in let line = c.args.line.now in let a = c.args.head.ask in
+    let at = c.skip_blanks-at.result in let end = c.in_ok-found.found.end in
+    let f = c.if-at-line.false in let within = c.skip_blanks-at.ensures.within in
+    let h : at < length line = omega arith in
+    let g = c.if-found-line.true in
+    let k : length line ≤ end = omega arith in
+    let i = rw c.in-Leaf.is at c.in_ok-found.ensures.lexeme in
+    let told = ap (λ (ps : List Placed). outcome line a ps start) (c.skip_blanks-at.ensures.lexemes how)
+    ∙ leaf_alone a how line at end (tree c.in-Leaf.query) h (c.skip_blanks-at.ensures.stops h) i c.in_ok-found.ensures.end k in
+    let fit = c.fitting.ensures in let same = c.in-Leaf.query-is in
+    fits_finds a how line (c.args.head.end + 1) (drop c.args.head.end line) _ c.fitting.result (told ∙ ap (λ (q : Query). sized a (tree q)) (sym same))
+    fit.same fit.well_formed fit.too_large fit.unfit
 
-pub returns-in-Deep : goal.returns-in-Deep
-returns-in-Deep c =
-    let b : is_blank (get_or c.args.line.now c.loop-at.at 0) ≡ false = ap (λ (xs : List ℕ). is_blank (get_or xs c.loop-at.at 0)) (sym c.as_bytes.ensures.value)
-    ∙ sym c.is_blank_byte.ensures ∙ c.if-is_blank_byte.false in
-    let s = rw c.in-Deep.is at c.in_ok-read.ensures.steps in
-    sym c.loop-at.invariant.told ∙ deep c.args.head.ask (dialect_of c.args.dialect) c.args.line.now c.loop-at.at (lexeme_of c.in_ok-found.found.lexeme) (state_of c.loop-at.reader) s.0
-    c.loop-at-test.true b c.in_ok-found.ensures.lexeme s.1 s.2
-
-pub loop-at-preserved : goal.loop-at-preserved
-loop-at-preserved c =
-    let b : is_blank (get_or c.args.line.now c.loop-at.at 0) ≡ false = ap (λ (xs : List ℕ). is_blank (get_or xs c.loop-at.at 0)) (sym c.as_bytes.ensures.value)
-    ∙ sym c.is_blank_byte.ensures ∙ c.if-is_blank_byte.false in
-    let s = rw c.in-Stood.is at c.in_ok-read.ensures.steps in
-    record {
-      told = sym (stood c.args.head.ask (dialect_of c.args.dialect) c.args.line.now c.loop-at.at
-          c.in_ok-found.found.end (lexeme_of c.in_ok-found.found.lexeme) (state_of c.loop-at.reader) (state_of c.read.new.self)
-          c.loop-at-test.true b c.in_ok-found.ensures.lexeme c.in_ok-found.ensures.end s.0 s.1) ∙ c.loop-at.invariant.told;
-      counted = c.in_ok-read.ensures.counted c.in-Stood.is;
-      boundary = c.in_ok-found.ensures.boundary;
-    }
-
-pub returns-in-None : goal.returns-in-None
-returns-in-None c =
-    let e = rw c.in-None.is at c.in_ok-finish.ensures in
-    sym c.loop-at.invariant.told ∙ at_end c.args.head.ask (dialect_of c.args.dialect) c.args.line.now c.loop-at.at (state_of c.loop-at.reader) None c.loop-at-test.false (sym e)
-
-pub returns-then-is_well_formed : goal.returns-then-is_well_formed
-returns-then-is_well_formed c =
-    let e = rw c.in-Some.is at c.in_ok-finish.ensures in
-    let w = c.is_well_formed.ensures in let f = c.if-is_well_formed.true in
-    sym c.loop-at.invariant.told ∙ at_end c.args.head.ask (dialect_of c.args.dialect) c.args.line.now c.loop-at.at
-    (state_of c.loop-at.reader) (Some (tree c.in-Some.query)) c.loop-at-test.false (sym e)
-    ∙ sized_fits c.args.head.ask c.args.line.now (tree c.in-Some.query) (w.0 f)
-
-pub returns-else-is_well_formed : goal.returns-else-is_well_formed
-returns-else-is_well_formed c =
-    let e = rw c.in-Some.is at c.in_ok-finish.ensures in
-    let told = sym c.loop-at.invariant.told ∙ at_end c.args.head.ask (dialect_of c.args.dialect) c.args.line.now c.loop-at.at
-    (state_of c.loop-at.reader) (Some (tree c.in-Some.query)) c.loop-at-test.false (sym e) in
-    let w = c.is_well_formed.ensures in let f = c.if-is_well_formed.false in
-    sized_large c.args.head.ask (dialect_of c.args.dialect) c.args.line.now (c.args.head.end + 1) (drop c.args.head.end c.args.line.now) (tree c.in-Some.query) told (λ k. true≢false (sym (w.1 k) ∙ f))
+pub read_rest-requires-clause-first : goal.read_rest-requires-clause-first
+read_rest-requires-clause-first c =
+    let how = dialect_of c.args.dialect.now in let line = c.args.line.now in
+    let at = c.skip_blanks-at.result in
+    let f = c.if-at-line.false in let within = c.skip_blanks-at.ensures.within in
+    let h : at < length line = omega arith in
+    c.skip_blanks-at.ensures.lexemes how
+    ∙ lexemes_at how line at c.in_ok-found.found.end (lexeme_of c.in_ok-found.found.lexeme) h (c.skip_blanks-at.ensures.stops h) c.in_ok-found.ensures.lexeme c.in_ok-found.ensures.end
