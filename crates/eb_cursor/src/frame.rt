@@ -10,7 +10,7 @@ mod calls;
 
 /// A query, the most ids of an answer (`k`), and the ids found so far, with all memory that
 /// searches need. It serves any number of searches, one segment after the other; only `new` and
-/// `again` take memory.
+/// `renew` take memory.
 #[derive(Drop)]
 pub struct Frame {
     query: Query,

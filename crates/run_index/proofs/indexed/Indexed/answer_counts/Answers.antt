@@ -3,6 +3,7 @@ use Rattle.run_store.specs.Rules.{Rules}
 use Rattle.eb_base.specs.Document.{Doc}
 use Rattle.eb_base.specs.Query.{Tree, tree}
 use Rattle.eb_count.specs.Tallies.{AreCounts}
+use Rattle.eb_cursor.specs.Frames.{query_of}
 use Rattle.eb_query.specs.declared.ask.Ask.TheVariants.{Counts}
 use Rattle.eb_lines.specs.declared.form.Form.{Form}
 use Rattle.eb_lines.specs.Text.{count_line, asked_line}
@@ -20,7 +21,7 @@ returns-clause-ok g c = λ rules docs none h few.
     let new = c.count-seen.new.tally in
     let before = c.args.text.now.items in
     let form : c.count-seen.new.self.form ≡ rules.form = ap (λ (s : Indexed). s.form) e.same ∙ sym (ap (λ (r : Rules (Unit {0})). r.form) h.by_rules) in
-    let are : AreCounts q docs new = subst (λ (z : Tree). AreCounts z docs new) c.in_ok-frame.ensures.query (e.counts h.setting docs h.holds) in
+    let are : AreCounts q docs new = subst (λ (z : Tree). AreCounts z docs new) (ap query_of c.deref_mut.ensures.value ∙ c.in_ok-frame.ensures.query) (e.counts h.setting docs h.holds) in
     let line = counted_as rules.form n (length docs) q docs new t.start t.width (length t.buckets) e.start e.width e.number are in (
       subst (λ (s : Indexed). IsIndexed s rules docs none) (sym e.same) h,
       c.put_count.ensures.text ∙ ap (λ (x : List ℕ). x ++ count_line c.count-seen.new.self.form n c.count-seen.result c.total.result c.buckets-2.result.now) c.in_ok-reserve.ensures.items
