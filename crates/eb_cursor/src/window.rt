@@ -32,7 +32,7 @@
 //! The walk holds for any number of position bits, since the end of the document bounds the reach.
 //! `window_below` stays a call, since inlined it took registers from the walk over a query's other
 //! parts.
-ghost use Rattle.std.specs.Prelude.{◌≡◌, ◌+◌, ◌-◌, ◌*◌, ◌<◌, ◌≤◌, ◌^◌, length, bytes_eq};
+ghost use Rattle.std.specs.Prelude.{◌≡◌, ◌+◌, ◌-◌, ◌*◌, ◌<◌, ◌≤◌, ◌^◌, true, false, length, bytes_eq};
 ghost use Rattle.std.specs.List.{list_all};
 ghost use Rattle.std.specs.Bool.{MatchBool};
 ghost use Rattle.eb_base.specs.Query.{window};
@@ -90,8 +90,8 @@ fn span_below<P: Port, L: Ledger>(
     if behind.first == 0 {
         return behind;
     }
-    // (the terms behind are too far apart, wherever this one is)
-    if behind.last.saturating_sub(behind.first) > nearer {
+    // (wherever this one is)
+    if are_apart(rest.len(), behind, nearer) {
         return Span {
             first: behind.first - 1,
             last: behind.last,
@@ -102,6 +102,16 @@ fn span_below<P: Port, L: Ledger>(
         first,
         last: behind.last,
     }
+}
+
+// Whether the terms are further apart than `limit`: a single one isn't, without a look at it.
+#[inline(always)]
+fn are_apart(terms: usize, span: Span, limit: u64) -> bool
+    requires single { terms ≤ 1 → span.last ≡ span.first }
+    ensures apart { result ≡ true → span.first + limit < span.last }
+    ensures near { result ≡ false → span.last ≤ span.first + limit }
+{
+    terms > 1 && span.last.saturating_sub(span.first) > limit
 }
 
 // Asks the terms after the first, most often a single one.
@@ -117,6 +127,7 @@ fn rest_below<P: Port, L: Ledger>(
     requires some { 0 < length cursors.old }
     requires ready { CanAskBehind P.stands port.old cursors.old end }
     ensures found { FindsSpan P.stands P.keeps port.old port.new limit cursors.old cursors.new end result }
+    ensures single { length cursors.old ≤ 1 → result.last ≡ result.first }
     ensures loads { steps.new + loads_left cursors.new ≤ steps.old + loads_left cursors.old }
 {
     if cursors.len() > 1 {

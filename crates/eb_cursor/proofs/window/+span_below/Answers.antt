@@ -45,13 +45,13 @@ span_below-returns-then-behind-eq0-clause-found g t c = λ docs ts last h. recor
       );
 }
 
-pub span_below-returns-then-saturating_sub-nearer-clause-found : goal.span_below-returns-then-saturating_sub-nearer-clause-found
-span_below-returns-then-saturating_sub-nearer-clause-found g t c = λ docs ts last h. record {
+pub span_below-returns-then-are_apart-clause-found : goal.span_below-returns-then-are_apart-clause-found
+span_below-returns-then-are_apart-clause-found g t c = λ docs ts last h. record {
   told = λ m st r.
       let a = behind_asks (gives m) docs ts c.args.cursors.now c.in-Some.own.now c.in-Some.rest.now last c.in-Some.ensures.cases.0 r in
       let x = (c.rest_below-behind.ensures.found docs a.1 last h).told m st a.4 in
       let w : IsLater m x.0 = record { is = g.met.P.Port.lawful _ m st; later = x.2 } in
-      let far : c.rest_below-behind.result.first + c.saturating_sub-nearer.result < c.rest_below-behind.result.last = omega (arith, c.if-saturating_sub-nearer.true) in (
+      let far : c.rest_below-behind.result.first + c.saturating_sub-nearer.result < c.rest_below-behind.result.last = c.are_apart.ensures.apart c.if-are_apart.true in (
         x.0,
         x.1,
         x.2,
@@ -67,7 +67,7 @@ span_below-leaf_below-first-requires g t c = let r = c.requires.ready in
     let a = behind_asks (gives r.0) r.1 r.2 c.args.cursors.now c.in-Some.own.now c.in-Some.rest.now r.3 c.in-Some.ensures.cases.0 r.6 in
     let x = (c.rest_below-behind.ensures.found r.1 a.1 r.3 r.5).told r.0 r.4 a.4 in
     let w : IsLater r.0 x.0 = record { is = g.met.P.Port.lawful _ r.0 r.4; later = x.2 } in
-    let near : c.rest_below-behind.result.last ≤ c.rest_below-behind.result.first + c.saturating_sub-nearer.result = omega (arith, c.if-saturating_sub-nearer.false) in
+    let near : c.rest_below-behind.result.last ≤ c.rest_below-behind.result.first + c.saturating_sub-nearer.result = c.are_apart.ensures.near c.if-are_apart.false in
     (x.0, is_posting r.1 a.0, x.1, front_asked (gives r.0) (gives x.0) (gives_later r.0 x.0 w) r.1 a.1 a.0 c.in-Some.own.now c.args.end r.3 _ r.5 (x.4.1 near) a.3)
 
 pub span_below-returns-clause-found : goal.span_below-returns-clause-found
@@ -76,7 +76,7 @@ span_below-returns-clause-found g t c = λ docs ts last h. record {
       let a = behind_asks (gives m) docs ts c.args.cursors.now c.in-Some.own.now c.in-Some.rest.now last c.in-Some.ensures.cases.0 r in
       let x = (c.rest_below-behind.ensures.found docs a.1 last h).told m st a.4 in
       let w : IsLater m x.0 = record { is = g.met.P.Port.lawful _ m st; later = x.2 } in
-      let near : c.rest_below-behind.result.last ≤ c.rest_below-behind.result.first + c.saturating_sub-nearer.result = omega (arith, c.if-saturating_sub-nearer.false) in
+      let near : c.rest_below-behind.result.last ≤ c.rest_below-behind.result.first + c.saturating_sub-nearer.result = c.are_apart.ensures.near c.if-are_apart.false in
       let y = (c.leaf_below-first.ensures.found (is_posting docs a.0)).told x.0 x.1
       (front_asked (gives m) (gives x.0) (gives_later m x.0 w) docs a.1 a.0 c.in-Some.own.now c.args.end last _ h (x.4.1 near) a.3) in
       let v : IsLater x.0 y.0 = record { is = g.met.P.Port.lawful _ x.0 x.1; later = y.2 } in (
