@@ -71,7 +71,7 @@ pub begins : (g : Gives) (docs : List Doc) (ts : List (List ℕ)) (cursors : Lis
 begins g docs ts cursors end last some r e = e ∙ last_from docs ts (length cursors - 1) end (omega (arith, some, behind_length g docs ts cursors end r))
 
 -- the next leaf may be asked
-pub asks_at : (g : Gives) (docs : List Doc) (ts : List (List ℕ)) (cursors : List Cursor) (d : Cursor) (at first end : ℕ) → 0 < at → at < length cursors
+pub asks_at : (g : Gives) (docs : List Doc) (ts : List (List ℕ)) (cursors : List Cursor) (d : Cursor) (at first end : ℕ) → 0 < at → at ≤ length cursors
     → AllBehind g docs ts cursors end × (first ≡ first_below docs (drop at ts) end) → IsLeaf g (is_posting docs (get_or ts (at - 1) [])) (get_or cursors (at - 1) d) (first - 1)
 asks_at g docs ts cursors d at first end some low r =
     let own = leaf_at g docs ts cursors d (at - 1) end (omega (arith, low)) r.0 in
@@ -80,7 +80,7 @@ asks_at g docs ts cursors d at first end some low r =
     (ap (λ (k : ℕ). number_before (first_below docs (drop k ts) end)) is ∙ sym (ap number_before r.1) ∙ before_is first) own
 
 -- and then was
-pub told_at : (g g' : Gives) → Later g g' → (docs : List Doc) (ts : List (List ℕ)) (cursors : List Cursor) (c : Cursor) (at first end found : ℕ) → 0 < at → at < length cursors
+pub told_at : (g g' : Gives) → Later g g' → (docs : List Doc) (ts : List (List ℕ)) (cursors : List Cursor) (c : Cursor) (at first end found : ℕ) → 0 < at → at ≤ length cursors
     → AllBehind g docs ts cursors end × (first ≡ first_below docs (drop at ts) end)
     → (found ≡ top (is_posting docs (get_or ts (at - 1) [])) (first - 1)) × IsLeaf g' (is_posting docs (get_or ts (at - 1) [])) c (first - 1)
     → AllBehind g' docs ts (set cursors (at - 1) c) end × (found ≡ first_below docs (drop (at - 1) ts) end)

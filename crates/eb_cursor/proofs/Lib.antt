@@ -14,9 +14,10 @@ pub mod Steps
 pub mod Phrases
 pub mod Windows
 pub mod ShortWindows
-pub mod Repeated
+pub mod LastTerms
 pub mod Bounds
 pub mod Backwards
+pub mod Runs
 pub mod Begins
 pub mod Owing
 pub mod Rounds

@@ -1,6 +1,6 @@
 -- What a call finds that asks cursors, over words that may grow meanwhile: for each list of
 -- documents and each end, the given one or a greater one, below which the cursors were ready.
-use Rattle.std.specs.Prelude.{◌≡◌, ℕ, ◌+◌, ◌-◌, ◌≤◌, Bool, List, length}
+use Rattle.std.specs.Prelude.{◌≡◌, ℕ, ◌+◌, ◌≤◌, Bool, List, length}
 use Rattle.eb_base.specs.Document.{Doc}
 use Rattle.eb_base.specs.Query.{Tree, Trees, word, phrase}
 use Rattle.eb_place.specs.declared.moment.Moment.{Moment}
@@ -8,8 +8,8 @@ use Rattle.eb_place.specs.Told.{Told}
 use Rattle.eb_cursor.specs.Lists.{gives}
 use Rattle.eb_cursor.specs.Opened.{CanRead}
 use Rattle.eb_cursor.specs.Ready.{Ready, AllReady, AllLeaves, AllBehind, IsBound, IsLeaf}
-use Rattle.eb_cursor.specs.Asked.{FoundMatch, FoundLeaf, FoundNot, FoundSome, FoundAll, FoundStart, FoundBound, FoundSpan, FoundWithin, FoundEnd, IsLed, IsRound, IsLedRun, IsRun}
-use Rattle.eb_cursor.specs.Posted.{is_posting, last_term, AreAll}
+use Rattle.eb_cursor.specs.Asked.{FoundMatch, FoundLeaf, FoundNot, FoundSome, FoundAll, FoundStart, FoundBound, FoundWithin, FoundEnd, IsLed, IsRound, IsLedRun, IsRun}
+use Rattle.eb_cursor.specs.Posted.{is_posting, last_term}
 use Rattle.eb_cursor.specs.Tops.{top}
 use Rattle.eb_cursor.specs.declared.cursor.Cursor.{Cursor}
 use Rattle.eb_cursor.specs.declared.window.Span.{Span}
@@ -79,30 +79,15 @@ abbrev pub FindsSpan : {S : Type 0} → (S → Moment → Type 0) → (S → Mom
 FindsSpan stands keeps s t limit old new end span = (docs : List Doc) (us : List (List ℕ)) (last : ℕ) → end ≤ last
     → Told stands keeps s t (λ m. AllBehind (gives m) docs us old last) (FoundWithin us docs limit new end span)
 
--- the greatest place where a window ends
-abbrev pub FindsEnd : {S : Type 0} → (S → Moment → Type 0) → (S → Moment → S → Moment → Type 0) → S → S → ℕ → List Cursor → List Cursor → ℕ → ℕ → Type 0
-FindsEnd stands keeps s t w old new end found = (docs : List Doc) (us : List (List ℕ)) (last : ℕ) → end ≤ last
-    → Told stands keeps s t (λ m. AllBehind (gives m) docs us old last) (FoundEnd us w docs new end found)
-
 -- the greatest place where a window of these terms ends
 abbrev pub FindsEndOf : {S : Type 0} → (S → Moment → Type 0) → (S → Moment → S → Moment → Type 0) → S → S → List (List ℕ) → ℕ → List Cursor → List Cursor → ℕ → ℕ → Type 0
 FindsEndOf stands keeps s t us w old new end found = (docs : List Doc) (last : ℕ) → end ≤ last
-    → Told stands keeps s t (λ m. AllBehind (gives m) docs us old last) (FoundEnd us w docs new end found)
-
--- the greatest place where a window ends whose terms are all one
-abbrev pub FindsEndRepeated : {S : Type 0} → (S → Moment → Type 0) → (S → Moment → S → Moment → Type 0) → S → S → ℕ → List Cursor → List Cursor → ℕ → ℕ → Type 0
-FindsEndRepeated stands keeps s t w old new end found = (docs : List Doc) (u : List ℕ) (us : List (List ℕ)) → AreAll u us → (last : ℕ) → end ≤ last
     → Told stands keeps s t (λ m. AllBehind (gives m) docs us old last) (FoundEnd us w docs new end found)
 
 -- the greatest place of the last term of a window
 abbrev pub FindsLast : {S : Type 0} → (S → Moment → Type 0) → (S → Moment → S → Moment → Type 0) → S → S → List Cursor → List Cursor → ℕ → ℕ → Type 0
 FindsLast stands keeps s t old new end found = (docs : List Doc) (us : List (List ℕ)) (last : ℕ) → end ≤ last
     → Told stands keeps s t (λ m. AllBehind (gives m) docs us old last) (λ n. (found ≡ top (is_posting docs (last_term us)) end) × AllBehind (gives n) docs us new end)
-
--- where the terms of a window that are all one are below the place of the last
-abbrev pub FindsNextSpan : {S : Type 0} → (S → Moment → Type 0) → (S → Moment → S → Moment → Type 0) → S → S → List Cursor → List Cursor → Span → Span → Type 0
-FindsNextSpan stands keeps s t old new span next = (docs : List Doc) (u : List ℕ) (us : List (List ℕ)) → AreAll u us → (end : ℕ)
-    → Told stands keeps s t (FoundSpan us docs old end span) (FoundSpan us docs new (span.last - 1) next)
 
 -- the greatest document whose id is greater than the bound
 abbrev pub FindsBound : {S : Type 0} → (S → Moment → Type 0) → (S → Moment → S → Moment → Type 0) → S → S → ℕ → Cursor → Cursor → ℕ → ℕ → Type 0

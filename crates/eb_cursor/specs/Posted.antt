@@ -1,6 +1,5 @@
 -- Which postings a term has, and which documents a query matches, by their numbers.
-use Rattle.std.specs.Prelude.{◌≡◌, ℕ, zero, suc, ◌+◌, ◌*◌, ◌/◌, ◌%◌, ◌≤◌, Bool, true, false, ◌&&◌, leb, ltb, min, List, [], ◌∷◌, length, bytes_eq, Option, None, Some, slice_get}
-use Rattle.std.specs.List.{list_all}
+use Rattle.std.specs.Prelude.{ℕ, zero, suc, ◌+◌, ◌*◌, ◌/◌, ◌%◌, ◌≤◌, Bool, true, false, ◌&&◌, leb, min, List, [], ◌∷◌, length, bytes_eq, Option, None, Some, slice_get}
 use Rattle.eb_base.specs.Document.{Doc}
 use Rattle.eb_base.specs.Query.{Tree, Trees}
 use Rattle.eb_base.specs.Match.{is_match, each_matches, some_matches}
@@ -68,16 +67,6 @@ abbrev pub last_term : List (List ℕ) → List ℕ
 last_term [] = []
 last_term (t ∷ []) = t
 last_term (t ∷ u ∷ ts) = last_term (u ∷ ts)
-
--- whether these are more than two terms, and all are one
-abbrev pub is_repeated : List (List ℕ) → Bool
-is_repeated [] = false
-is_repeated (t ∷ ts) = ltb 1 (length ts) && list_all (bytes_eq t) ts
-
--- all terms are this one
-abbrev pub AreAll : List ℕ → List (List ℕ) → Type 0
-AreAll t [] = Unit {0}
-AreAll t (u ∷ us) = (u ≡ t) × AreAll t us
 
 -- where terms occur in their order below the end, each as near as it can to the one after it: one
 -- more than the greatest place of the first; 0 where they don't so occur, and one more than the end

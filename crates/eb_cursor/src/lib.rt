@@ -13,6 +13,7 @@ mod pair;
 mod phrase;
 mod posting_list;
 mod rarest;
+mod run;
 mod size;
 mod window;
 

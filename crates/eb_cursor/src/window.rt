@@ -19,12 +19,8 @@
 //! instructions, since a look that stopped early had made all its calls. In the loop three terms
 //! would take 1.09 times as many.
 //!
-//! Where all terms of a window are one, and they are more than two, each stands at the place below
-//! that of the term after it. So where the last falls to its next place, each other falls to the
-//! place of the term before it, and the first to its own next place. Only the first and the last
-//! cursor walk then (`repeated_below`), in place of one walk for each term. The last falls by one
-//! place at a time: no window ends between, and what lies behind the reach is at most as many
-//! places as there are terms. Equal terms among others have a walk each.
+//! Where terms next to each other are one, and more than two, only the first and the last of them
+//! walk (`run.rt`).
 //!
 //! A window whose reach is too short for its terms matches nothing, and asks no list. Without that
 //! test 64 equal words with too short a reach walked one list 64 times.
@@ -32,18 +28,18 @@
 //! The walk holds for any number of position bits, since the end of the document bounds the reach.
 //! `window_below` stays a call, since inlined it took registers from the walk over a query's other
 //! parts.
-ghost use Rattle.std.specs.Prelude.{◌≡◌, ◌+◌, ◌-◌, ◌*◌, ◌<◌, ◌≤◌, ◌^◌, true, false, length, bytes_eq};
-ghost use Rattle.std.specs.List.{list_all};
+ghost use Rattle.std.specs.Prelude.{◌≡◌, ◌+◌, ◌-◌, ◌*◌, ◌<◌, ◌≤◌, ◌^◌, true, false, length, None, Some};
 ghost use Rattle.std.specs.Bool.{MatchBool};
 ghost use Rattle.eb_base.specs.Query.{window};
 ghost use Rattle.eb_cursor.specs.Loads.{loads_left};
-ghost use Rattle.eb_cursor.specs.Posted as spec;
 ghost use Rattle.eb_cursor.specs.Posted.{reach_end};
-ghost use Rattle.eb_cursor.specs.Asked.{CanAsk, CanAskBehind, CanAskTerms, CanAskRepeated, CanAskSpan};
-ghost use Rattle.eb_cursor.specs.Finds.{FindsMatch, FindsSpan, FindsEnd, FindsEndOf, FindsEndRepeated, FindsLast, FindsNextSpan};
+ghost use Rattle.eb_cursor.specs.Asked.{CanAsk, CanAskBehind, CanAskTerms};
+ghost use Rattle.eb_cursor.specs.Finds.{FindsMatch, FindsSpan, FindsEndOf, FindsLast};
+ghost use Rattle.eb_cursor.specs.Runs.{CanAskDown, GoesDown, AreKept, CanLook, Looks, CanAskWith, FindsEndWith};
 
 use crate::cursor::{Cursor, leaf_below};
 use crate::phrase::to_document_end;
+use crate::run::{Run, long_run, run_below};
 use eb_base::Term;
 use eb_place::{PLACES, Port, Steps};
 use std::sync::ledger::Ledger;
@@ -56,6 +52,27 @@ pub struct Span {
     pub first: u64,
     /// One more than the place of the last term, 0 where it doesn't occur.
     pub last: u64,
+}
+
+/// How far a look has come: the terms from one on were asked.
+#[derive(Clone, Copy)]
+pub(crate) struct Asked {
+    /// How many terms before them weren't asked.
+    pub(crate) left: usize,
+    /// One more than the place of the first of those asked, 0 where they don't occur in their
+    /// order; one more than the end where none was asked.
+    pub(crate) first: u64,
+}
+
+impl Asked {
+    /// What the place of the first of all terms is at most, one more than it: each that wasn't
+    /// asked needs a place of its own.
+    #[inline(always)]
+    pub(crate) fn first_at_most(self) -> u64
+        ensures { result ≡ self.first - self.left }
+    {
+        self.first.saturating_sub(self.left as u64)
+    }
 }
 
 // Asks the terms from the last on, each for its greatest place below that of the term after it,
@@ -193,26 +210,54 @@ fn many_below<P: Port, L: Ledger>(
     ensures loads { steps.new + loads_left cursors.new ≤ steps.old + loads_left cursors.old }
 {
     let last = last_below(cursors, port, steps, end);
-    let floor = last.saturating_sub(limit);
-    let mut first = last;
-    let mut left = cursors.len() - 1;
-    while is_open(left as u64, first, floor) {
-        left -= 1;
-        first = leaf_below(&mut cursors[left], port, steps, first - 1);
-    }
+    let asked = Asked {
+        left: cursors.len() - 1,
+        first: last,
+    };
+    let asked = ask_down(0, last.saturating_sub(limit), asked, cursors, port, steps);
     Span {
-        first: first.saturating_sub(left as u64),
+        first: asked.first_at_most(),
         last,
     }
+}
+
+// Asks the terms before those that were asked, down to one, until they can't all be from `floor`
+// on.
+#[inline(always)]
+pub(crate) fn ask_down<P: Port, L: Ledger>(
+    down_to: usize,
+    floor: u64,
+    asked: Asked,
+    cursors: &mut [Cursor],
+    port: &mut P,
+    steps: &mut Steps<L>,
+) -> Asked
+    requires within { asked.left ≤ length cursors.old }
+    requires ready { CanAskDown P.stands port.old cursors.old asked }
+    ensures found { GoesDown P.stands P.keeps port.old port.new cursors.old cursors.new asked result }
+    ensures low { down_to ≤ asked.left → down_to ≤ result.left }
+    ensures falls { result.left ≤ asked.left }
+    ensures kept { AreKept cursors.old cursors.new result.left asked.left }
+    ensures stops { down_to < result.left → 0 < result.first → result.first - result.left < floor }
+    ensures loads { steps.new + loads_left cursors.new ≤ steps.old + loads_left cursors.old }
+{
+    let mut asked = asked;
+    'down: while is_open(down_to, asked, floor) {
+        let left = asked.left - 1;
+        let first = leaf_below(&mut cursors[left], port, steps, asked.first - 1);
+        asked = Asked { left, first };
+    }
+    asked
 }
 
 // Whether terms are left to be asked, those after them occur in their order, and all can be from
 // `floor` on.
 #[inline(always)]
-fn is_open(left: u64, first: u64, floor: u64) -> bool
-    ensures { MatchBool result ((0 < left) × (0 < first) × (floor ≤ first - left)) (0 < left → 0 < first → first - left < floor) }
+fn is_open(down_to: usize, asked: Asked, floor: u64) -> bool
+    ensures { MatchBool result ((down_to < asked.left) × (0 < asked.first) × (floor ≤ asked.first - asked.left))
+        (down_to < asked.left → 0 < asked.first → asked.first - asked.left < floor) }
 {
-    left > 0 && first > 0 && first.saturating_sub(left) >= floor
+    asked.left > down_to && asked.first > 0 && asked.first_at_most() >= floor
 }
 
 // The end below which the last term of a window is whose first term is before `first`: at most
@@ -224,8 +269,35 @@ fn end_of_reach(first: u64, reach: u32) -> u64
     (first + u64::from(reach)).min(PLACES * to_document_end(first))
 }
 
-// One more than the greatest place below `end` where a window ends, or 0.
+// Where the terms are below `end`, as far as a look within `limit` tells; where the run is, if there
+// is one.
+#[inline(always)]
+fn look_below<P: Port, L: Ledger>(
+    run: Option<Run>,
+    known: &mut Option<Span>,
+    limit: u64,
+    cursors: &mut [Cursor],
+    port: &mut P,
+    steps: &mut Steps<L>,
+    end: u64,
+) -> Span
+    requires small { end ≤ 2 ^ 48 }
+    requires some { 0 < length cursors.old }
+    requires ready { CanLook P.stands port.old run known.old cursors.old end }
+    ensures found { Looks P.stands P.keeps port.old port.new limit run known.old known.new cursors.old cursors.new end result }
+    ensures loads { steps.new + loads_left cursors.new ≤ steps.old + loads_left cursors.old }
+{
+    match run {
+        None => span_below(limit, cursors, port, steps, end),
+        Some(run) => run_below(run, known, limit, cursors, port, steps, end),
+    }
+}
+
+// One more than the greatest place below `end` where a window ends, or 0. The run is one of its
+// terms, if it has one.
+#[inline(always)]
 fn windows_below<P: Port, L: Ledger>(
+    run: Option<Run>,
     reach: u32,
     cursors: &mut [Cursor],
     port: &mut P,
@@ -234,13 +306,15 @@ fn windows_below<P: Port, L: Ledger>(
 ) -> u64
     requires small { end ≤ 2 ^ 48 }
     requires some { 0 < length cursors.old }
-    requires ready { CanAskBehind P.stands port.old cursors.old end }
-    ensures found { FindsEnd P.stands P.keeps port.old port.new reach cursors.old cursors.new end result }
+    requires ready { CanAskWith P.stands port.old run cursors.old end }
+    ensures found { FindsEndWith P.stands P.keeps port.old port.new run reach cursors.old cursors.new end result }
     ensures loads { steps.new + loads_left cursors.new ≤ steps.old + loads_left cursors.old }
 {
+    let mut known = None;
     let mut place = end;
     while place > 0 {
-        let span = span_below(u64::from(reach), cursors, port, steps, place);
+        let limit = u64::from(reach);
+        let span = look_below(run, &mut known, limit, cursors, port, steps, place);
         let reached = end_of_reach(span.first, reach);
         if span.last <= reached {
             return span.last;
@@ -250,29 +324,10 @@ fn windows_below<P: Port, L: Ledger>(
     place
 }
 
-// Where the terms are below the last one's place in `span`, where all are one term: the last falls
-// to its next place, so each other falls to the place of the one before it, and the first to its
-// next.
-fn next_span<P: Port, L: Ledger>(
-    cursors: &mut [Cursor],
-    port: &mut P,
-    steps: &mut Steps<L>,
-    span: Span,
-) -> Span
-    requires more { 1 < length cursors.old }
-    requires last { 0 < span.last }
-    requires first { 0 < span.first }
-    requires ready { CanAskSpan P.stands port.old cursors.old span }
-    ensures found { FindsNextSpan P.stands P.keeps port.old port.new cursors.old cursors.new span result }
-    ensures loads { steps.new + loads_left cursors.new ≤ steps.old + loads_left cursors.old }
-{
-    let last = last_below(cursors, port, steps, span.last - 1);
-    let first = leaf_below(&mut cursors[0], port, steps, span.first - 1);
-    Span { first, last }
-}
-
-// As `windows_below`, where all terms are one. Only the first and the last cursor walk.
-fn repeated_below<P: Port, L: Ledger>(
+// As `windows_below`, where the terms have a run.
+#[inline(never)]
+fn runs_below<P: Port, L: Ledger>(
+    run: Run,
     reach: u32,
     cursors: &mut [Cursor],
     port: &mut P,
@@ -280,37 +335,12 @@ fn repeated_below<P: Port, L: Ledger>(
     end: u64,
 ) -> u64
     requires small { end ≤ 2 ^ 48 }
-    requires more { 1 < length cursors.old }
-    requires ready { CanAskRepeated P.stands port.old cursors.old end }
-    ensures found { FindsEndRepeated P.stands P.keeps port.old port.new reach cursors.old cursors.new end result }
+    requires some { 0 < length cursors.old }
+    requires ready { CanAskWith P.stands port.old (Some run) cursors.old end }
+    ensures found { FindsEndWith P.stands P.keeps port.old port.new (Some run) reach cursors.old cursors.new end result }
     ensures loads { steps.new + loads_left cursors.new ≤ steps.old + loads_left cursors.old }
 {
-    // (each span's places are needed for the next, so this look has no limit)
-    let mut span = span_below(u64::MAX, cursors, port, steps, end);
-    while span.first > 0 {
-        if span.last <= end_of_reach(span.first, reach) {
-            return span.last;
-        }
-        span = next_span(cursors, port, steps, span);
-    }
-    0
-}
-
-// Whether these are more than two terms, and all are one.
-fn is_repeated(terms: &[Term]) -> bool
-    ensures { result ≡ spec.is_repeated terms.now }
-{
-    let Some((first, others)) = terms.split_first() else {
-        return false;
-    };
-    others.len() > 1 && are_all(first, others)
-}
-
-// Whether all terms are this one.
-fn are_all(term: &Term, terms: &[Term]) -> bool
-    ensures { result ≡ list_all (bytes_eq term.now) terms.now }
-{
-    terms.iter().all(|own| term == own)
+    windows_below(Some(run), reach, cursors, port, steps, end)
 }
 
 // One more than the greatest place below `end` where a window of these terms ends, or 0.
@@ -328,10 +358,12 @@ fn ends_below<P: Port, L: Ledger>(
     ensures found { FindsEndOf P.stands P.keeps port.old port.new terms.now reach cursors.old cursors.new end result }
     ensures loads { steps.new + loads_left cursors.new ≤ steps.old + loads_left cursors.old }
 {
-    if is_repeated(terms) {
-        return repeated_below(reach, cursors, port, steps, end);
+    if terms.len() > 2 {
+        if let Some(run) = long_run(terms) {
+            return runs_below(run, reach, cursors, port, steps, end);
+        }
     }
-    windows_below(reach, cursors, port, steps, end)
+    windows_below(None, reach, cursors, port, steps, end)
 }
 
 /// One more than the greatest document below `end` that has the window of this reach, or 0.

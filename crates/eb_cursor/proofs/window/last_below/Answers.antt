@@ -1,7 +1,7 @@
 use Rattle.std.proofs.Common.{◌≡◌, ◌-◌, suc, length, arith}
 use Rattle.eb_cursor.specs.Lists.{gives}
 use Rattle.eb_cursor.specs.Posted.{is_posting, last_term}
-use Rattle.eb_cursor.proofs.Repeated.{last_asks, last_told, loads_at}
+use Rattle.eb_cursor.proofs.LastTerms.{last_asks, last_told, loads_at}
 use Rattle.eb_cursor.proofs.Tellings.{told_as, gives_later}
 use Rattle.eb_cursor.proofs.window.last_below.Goals as goal
 
