@@ -8,7 +8,7 @@ use std::mem;
 
 /// The operands of a part of a query text, in order. One operand alone is in no list and takes no
 /// memory, so a query of one word takes none: its store uses the frame of the query before again
-/// (`Frame::again` of `eb_cursor`).
+/// (`Frame::renew` of `eb_cursor`).
 #[derive(Drop)]
 pub enum Operands {
     /// One operand.
