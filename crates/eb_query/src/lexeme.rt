@@ -67,6 +67,7 @@ pub fn run_len(bytes: &[u8]) -> usize
 
 /// The lexeme of a text, by its tokens.
 #[tactic(auto, unfolding(crate::specs::Lexemes::text_lexeme))]
+#[inline(always)]
 pub fn text_of(alloc: Global, dialect: &Dialect<'_>, text: &str) -> Result<Lexeme, NoMemory>
     ensures { IfOk result (λ lexeme. lexeme_of lexeme ≡ text_lexeme (dialect_of dialect.now) text.now) }
 {

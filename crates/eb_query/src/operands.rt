@@ -37,6 +37,7 @@ impl Operands {
 
     /// Puts the operand at the end. The first one takes no memory. Without memory the operands
     /// can't be used any more.
+    #[inline(always)]
     pub fn push(&mut self, alloc: Global, query: Query) -> Result<(), NoMemory>
         ensures { OnOk result (operands_of self.new ≡ operands_of self.old ++ tree query ∷ []) }
     {

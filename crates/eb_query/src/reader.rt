@@ -60,6 +60,7 @@ impl Group {
     }
 
     // What the group asks where it ends now.
+    #[inline(always)]
     fn into_query(self) -> Result<Query, NoMemory>
         ensures { IfOk result (λ query.
             tree query ≡ or_of (parts (parts_of self.ors) (operands_of self.ands))) }
@@ -125,7 +126,9 @@ impl Reader {
         }
     }
 
-    // Takes a `(`, which begins a group.
+    // Takes a `(`, which begins a group. A call, since most queries have none: what they have, words
+    // and `OR`, is taken in place, without moving a query from call to call.
+    #[inline(never)]
     fn open(&mut self, alloc: Global) -> Result<Step, NoMemory>
         requires { IsCounted self.old }
         ensures steps { IfOk result (λ went.
@@ -171,6 +174,7 @@ impl Reader {
     }
 
     // Takes a `)`, which makes the group an operand of the one round it.
+    #[inline(never)]
     fn close(&mut self, alloc: Global) -> Result<Step, NoMemory>
         requires { IsCounted self.old }
         ensures steps { IfOk result (λ went.
@@ -190,6 +194,7 @@ impl Reader {
     }
 
     // Takes an operand of the innermost group, after its minuses.
+    #[inline(always)]
     fn take(&mut self, alloc: Global, query: Query) -> Result<(), NoMemory>
         requires { IsCounted self.old }
         ensures state { OnOk result
