@@ -45,7 +45,7 @@ abbrev pub HasRun : Option Run → List (List ℕ) → Type 0
 HasRun None ts = Unit {0}
 HasRun (Some run) ts = IsRun ts run
 
--- so many numbers that pass before this one, each one more than it
+-- one more than the n-th number that passes before this one, counted down; this one where n is 0
 abbrev pub back : (ℕ → Bool) → ℕ → ℕ → ℕ
 back f zero place = place
 back f (suc n) place = top f (number_before (back f n place))
