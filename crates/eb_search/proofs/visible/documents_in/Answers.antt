@@ -12,7 +12,8 @@ overflow_sub-result-2 c =
       | then-segment-begun w ↦ inl (w.if-segment-begun.true, w.end-is)
       | else-segment-begun w ↦ inr (omega (arith, w.if-segment-begun.false), w.end-is)
     ] in
-    let s = is_step r.0 r.1 firsts c.args.begun c.args.segment end r.2 r.4 (omega (arith, c.requires.begun)) (ends_there r.0 r.1 firsts c.args.begun c.args.count c.args.segment end r.3 r.4 c.requires.begun is) in
+    let s = is_step r.0 r.1 firsts c.args.begun c.args.segment end r.2 r.4 (omega (arith, c.requires.begun))
+    (ends_there r.0 r.1 firsts c.args.begun c.args.count c.args.segment end r.3 r.4 c.requires.begun is) in
     omega (arith, s.word, s.next)
 
 pub overflow_cast-result-2 : goal.overflow_cast-result-2
@@ -24,7 +25,8 @@ overflow_cast-result-2 c =
       | then-segment-begun w ↦ inl (w.if-segment-begun.true, w.end-is)
       | else-segment-begun w ↦ inr (omega (arith, w.if-segment-begun.false), w.end-is)
     ] in
-    let s = is_step r.0 r.1 firsts c.args.begun c.args.segment end r.2 r.4 (omega (arith, c.requires.begun)) (ends_there r.0 r.1 firsts c.args.begun c.args.count c.args.segment end r.3 r.4 c.requires.begun is) in
+    let s = is_step r.0 r.1 firsts c.args.begun c.args.segment end r.2 r.4 (omega (arith, c.requires.begun))
+    (ends_there r.0 r.1 firsts c.args.begun c.args.count c.args.segment end r.3 r.4 c.requires.begun is) in
     omega (arith, s.word, s.next, s.small)
 
 pub returns : goal.returns
@@ -35,5 +37,6 @@ returns c m docs lawful same v =
       | then-segment-begun w ↦ inl (w.if-segment-begun.true, w.end-is)
       | else-segment-begun w ↦ inr (omega (arith, w.if-segment-begun.false), w.end-is)
     ] in
-    let s = is_step m docs firsts c.args.begun c.args.segment end lawful v (omega (arith, c.requires.begun)) (ends_there m docs firsts c.args.begun c.args.count c.args.segment end same v c.requires.begun is) in
+    let s = is_step m docs firsts c.args.begun c.args.segment end lawful v (omega (arith, c.requires.begun))
+    (ends_there m docs firsts c.args.begun c.args.count c.args.segment end same v c.requires.begun is) in
     omega (arith, s.word, s.next)

@@ -48,5 +48,6 @@ returns-clause-ids g c = λ few.
     let all : take c.search_unmetered.result docs ≡ docs = take_all c.search_unmetered.result docs (omega (arith, count)) in
     let own = subst (λ (w : WriterToken). w.feed.held ≡ min w.keep (length w.feed.log)) e.this e.held in
     let held = subst (λ (o : FeedOffice). o.feed.feed.held ≡ min o.feed.keep (length o.feed.feed.log)) same own in
-    e.ids ∙ ap (λ (w : WriterToken). answer q k (stretch_of w.feed.held w.feed.log w.feed.docs)) e.this ∙ ap (λ (o : FeedOffice). answer q k (stretch_of o.feed.feed.held o.feed.feed.log o.feed.feed.docs)) same
+    e.ids ∙ ap (λ (w : WriterToken). answer q k (stretch_of w.feed.held w.feed.log w.feed.docs)) e.this
+    ∙ ap (λ (o : FeedOffice). answer q k (stretch_of o.feed.feed.held o.feed.feed.log o.feed.feed.docs)) same
     ∙ ap (answer q k) (writer_keeps w c.requires.staffed.taken held ∙ ap (kept w.setting w.keep) (sym all))
