@@ -18,6 +18,7 @@ pub mod LastTerms
 pub mod Bounds
 pub mod Backwards
 pub mod Runs
+pub mod Longest
 pub mod Begins
 pub mod Owing
 pub mod Rounds
@@ -28,3 +29,4 @@ pub mod Turns
 pub mod Terms
 pub mod Pairs
 pub mod VectorsPairs
+pub mod VectorsRuns

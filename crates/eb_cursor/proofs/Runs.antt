@@ -124,7 +124,8 @@ stands_kept g g' w docs ts old new run end last low high span r kept l h s =
             (before_up (first_below docs (drop run.to ts) end) (first_below docs (drop run.to ts) last) (first_up docs (drop run.to ts) end last h)),
       );
       first = λ d. subst (λ (c : Cursor). IsLeaf g' f c span.first) (sym (kept run.from d (inl (omega (arith, r.several, l))))) (leaf_later g g' w f (get_or old run.from d) span.first (s.first d));
-      last = λ d. subst (λ (c : Cursor). IsLeaf g' f c span.last) (sym (kept (run.to - 1) d (inl (omega (arith, r.several, l))))) (leaf_later g g' w f (get_or old (run.to - 1) d) span.last (s.last d));
+      last = λ d. subst (λ (c : Cursor). IsLeaf g' f c span.last) (sym (kept (run.to - 1) d (inl (omega (arith, r.several, l)))))
+          (leaf_later g g' w f (get_or old (run.to - 1) d) span.last (s.last d));
     }
 
 -- ---- both cursors fall by one place

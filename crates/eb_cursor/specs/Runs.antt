@@ -45,6 +45,11 @@ abbrev pub HasRun : Option Run → List (List ℕ) → Type 0
 HasRun None ts = Unit {0}
 HasRun (Some run) ts = IsRun ts run
 
+-- no run has more terms than this one, and none before it has as many; if none is named, none has three
+abbrev pub IsLongest : Option Run → List (List ℕ) → Type 0
+IsLongest None ts = (r : Run) → IsRun ts r → r.to - r.from < 3
+IsLongest (Some run) ts = (3 ≤ run.to - run.from) × ((r : Run) → IsRun ts r → (r.to - r.from ≤ run.to - run.from) × (r.from < run.from → r.to - r.from < run.to - run.from))
+
 -- one more than the n-th number that passes before this one, counted down; this one where n is 0
 abbrev pub back : (ℕ → Bool) → ℕ → ℕ → ℕ
 back f zero place = place

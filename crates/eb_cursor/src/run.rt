@@ -7,7 +7,7 @@
 //! there as others do. Of several runs the longest is asked so.
 ghost use Rattle.std.specs.Prelude.{◌≡◌, ◌+◌, ◌-◌, ◌<◌, ◌≤◌, ◌^◌, length, None, Some};
 ghost use Rattle.eb_cursor.specs.Loads.{loads_left};
-ghost use Rattle.eb_cursor.specs.Runs.{CanAskRun, FindsRun, CanAskBefore, FindsBefore, CanLook, Looks, HasRun};
+ghost use Rattle.eb_cursor.specs.Runs.{CanAskRun, FindsRun, CanAskBefore, FindsBefore, CanLook, Looks, HasRun, IsLongest};
 
 use crate::cursor::{Cursor, leaf_below};
 use crate::window::{Asked, Span, ask_down};
@@ -26,7 +26,8 @@ pub(crate) struct Run {
 
 /// The first of the longest runs of these terms, where it has three terms or more.
 pub(crate) fn long_run(terms: &[Term]) -> Option<Run>
-    ensures { HasRun result terms.now }
+    ensures run { HasRun result terms.now }
+    ensures longest { IsLongest result terms.now }
 {
     let mut longest = Run { from: 0, to: 0 };
     let mut from = 0;

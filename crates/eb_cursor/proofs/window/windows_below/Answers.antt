@@ -61,7 +61,8 @@ loop-place-preserved g c = let r = c.requires.ready in
       falls = omega (arith, falls, c.loop-place.invariant.falls);
       loads = omega (arith, c.look_below-span.ensures.loads, c.loop-place.invariant.loads);
       found =
-          λ docs ts last h run. told_on g.met.P.Port.lawful g.met.P.Port.keeps_on (c.loop-place.invariant.found docs ts last h run) (c.look_below-span.ensures.found docs ts c.loop-place.place (omega arith) run)
+          λ docs ts last h run. told_on g.met.P.Port.lawful g.met.P.Port.keeps_on (c.loop-place.invariant.found docs ts last h run)
+          (c.look_below-span.ensures.found docs ts c.loop-place.place (omega arith) run)
           (λ l r. r) (λ l m w r i. (i.1, i.2))
           (λ l m n w1 w2 r i x.
           let up = reach_up c.args.reach (first_below docs ts c.loop-place.place) c.look_below-span.result.first x.0.0 in
