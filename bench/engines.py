@@ -272,7 +272,7 @@ class Lucene(Piped):
     def missing(self):
         if not (shutil.which("java") and shutil.which("javac")):
             return "there is no java and javac"
-        return None if self.jars() else "liblucene-java isn't installed"
+        return None if self.jars() else "liblucene8-java isn't installed"
 
     def version(self):
         return os.path.basename(self.jars()[0])
